@@ -1,0 +1,56 @@
+-- Block curves: the prices that a list of blocks stands for, and which lists are refused.
+use mathlib.Core.Bool.{Bool, true, false, cond, _&&_}
+use mathlib.Core.List.{List, [], _∷_, _++_}
+use Prim.Native.Nat.{ℕ, _+_, _≤_}
+use lib.Dec.{leb, eqb}
+use lib.IntN.{ℤ}
+use lib.ListN.{length, replicate}
+use lib.Signed.{leZ}
+use Rattle.std.specs.declared.option.Option.{Option}
+use Rattle.std.specs.declared.option.Option.the-variants.{None, Some}
+use Rattle.std.specs.declared.result.Result.{Result}
+use Rattle.std.specs.declared.result.Result.the-variants.{Ok, Err}
+use Rattle.offers.specs.declared.block.Block.{Block}
+use Rattle.offers.specs.declared.refusal.CurveRefusal.{CurveRefusal}
+use Rattle.offers.specs.declared.refusal.CurveRefusal.the-variants.{BlockCount, EmptyBlock, TooWide, PriceOutOfRange, PriceFalls}
+use Rattle.offers.specs.Prices.{lowestPrice, highestTop, inRange, InRange}
+
+-- Each block has as many tenths as it is wide, all at its price.
+abbrev pub spread : List Block → List ℤ
+spread [] = []
+spread (b ∷ bs) = replicate (b .width) (b .price) ++ spread bs
+
+-- What is wrong with block number i, where so many tenths lie before it and its price may not be below the floor.
+abbrev pub blockFault : ℕ → ℕ → ℤ → Block → Option CurveRefusal
+blockFault i before floor b =
+  cond (eqb (b .width) 0) (Some (EmptyBlock i))
+  (cond (leb (before + b .width) highestTop)
+    (cond (inRange (b .price))
+      (cond (leZ floor (b .price)) None (Some (PriceFalls i)))
+      (Some (PriceOutOfRange i)))
+    (Some (TooWide i)))
+
+abbrev pub orElse : Option CurveRefusal → Option CurveRefusal → Option CurveRefusal
+orElse None next = next
+orElse (Some fault) next = Some fault
+
+-- The first fault of the blocks from number i on, block by block.
+abbrev pub faultFrom : ℕ → ℕ → ℤ → List Block → Option CurveRefusal
+faultFrom i before floor [] = None
+faultFrom i before floor (b ∷ bs) = orElse (blockFault i before floor b) (faultFrom (i + 1) (before + b .width) (b .price) bs)
+
+-- The first fault of an offer. Its first block has no block before it, so that the lowest price is its floor.
+abbrev pub fault : List Block → Option CurveRefusal
+fault bs = cond (leb 1 (length bs) && leb (length bs) 10) (faultFrom 1 0 lowestPrice bs) (Some BlockCount)
+
+abbrev pub unless : Option CurveRefusal → List Block → Result (List Block) CurveRefusal
+unless None bs = Ok bs
+unless (Some refusal) bs = Err refusal
+
+-- The blocks that a curve is asked to hold, or its refusal.
+abbrev pub blocksAsked : List Block → Result (List Block) CurveRefusal
+blocksAsked bs = unless (fault bs) bs
+
+-- A block that a curve may hold.
+abbrev pub Kept : Block → Type 0
+Kept b = (b .width ≤ highestTop) × InRange (b .price)

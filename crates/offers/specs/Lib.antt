@@ -1,0 +1,4 @@
+pub mod Prices
+pub mod Refusals
+pub mod Blocks
+pub mod Piles

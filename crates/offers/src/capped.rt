@@ -1,0 +1,58 @@
+// A cap over a lower curve.
+
+ghost use mathlib.Core.Path.{_≡_};
+ghost use lib.Signed.{_≤ℤ_};
+ghost use Rattle.offers.specs.Prices.{lowestPrice, highestPrice, meant};
+ghost use Rattle.offers.specs.Piles.{capped, capAsked};
+use super::block::cost_of_all;
+use super::block::Block;
+use super::curve::OfferCurve;
+use super::curve::HIGHEST_PRICE;
+use super::curve::LOWEST_PRICE;
+use super::refusal::CurveRefusal;
+
+// A curve of which no price is above a limit.
+#[derive(Drop)]
+pub struct Cap<C> {
+    lower: C,
+    limit: i64,
+    ghost within: { (lowestPrice ≤ℤ limit) × (limit ≤ℤ highestPrice) },
+}
+
+impl<C: OfferCurve + Drop> Cap<C> {
+    // A cap over a curve, refused where its limit is no price.
+    pub fn new(lower: C, limit: i64) -> Result<Cap<C>, CurveRefusal>
+        ensures { λ r. ⌜ meant (λ c. capped (c .limit) (prices (c .lower))) r ≡ capAsked limit (prices lower) ⌝ }
+    {
+        if limit < LOWEST_PRICE || limit > HIGHEST_PRICE {
+            return Err(CurveRefusal::CapOutOfRange);
+        }
+        Ok(Cap { lower, limit })
+    }
+}
+
+pub impl<C: OfferCurve> OfferCurve for Cap<C> as CapOffer {
+    ghost prices = { λ c. capped (c .limit) (C·OfferCurve .prices (c .lower)) };
+
+    fn top(&self) -> u64 {
+        self.lower.top()
+    }
+
+    fn price(&self, tenth: u64) -> Result<i64, CurveRefusal> {
+        let price = self.lower.price(tenth)?;
+        Ok(price.min(self.limit))
+    }
+
+    fn cost(&self, tenths: u64) -> Result<i64, CurveRefusal> {
+        if tenths > self.lower.top() {
+            return Err(CurveRefusal::NoSuchTenth(tenths));
+        }
+        let under = self.lower.count(self.limit).min(tenths);
+        let cost = self.lower.cost(under)?;
+        Ok(cost + cost_of_all(Block { width: tenths - under, price: self.limit }))
+    }
+
+    fn count(&self, price: i64) -> u64 {
+        if price < self.limit { self.lower.count(price) } else { self.lower.top() }
+    }
+}

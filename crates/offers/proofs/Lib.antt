@@ -1,3 +1,4 @@
 pub mod Sums
 pub mod Rising
 pub mod Piles
+pub mod Spreads

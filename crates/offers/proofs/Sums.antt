@@ -60,19 +60,23 @@ upTo-length q (p ∷ ps) = go (leZ p q) (upTo-length q ps)
   go true h = omega arith
   go false h = omega arith
 
--- a number that a sum of prices in range may be
-abbrev pub Spans : ℕ → ℤ → Type 0
-Spans n z = (negℤ (pos (100000 * n)) ≤ℤ z) × (z ≤ℤ pos (100000 * n))
+-- a number at most so far from 0
+abbrev pub Near : ℕ → ℤ → Type 0
+Near n z = (negℤ (pos n) ≤ℤ z) × (z ≤ℤ pos n)
 
-pub total-spans : (ps : List ℤ) → All InRange ps → Spans (length ps) (total ps)
-total-spans [] h = (omega (arith, ints), omega (arith, ints))
-total-spans (p ∷ ps) h = let k = total-spans ps (h .1) in (omega (arith, ints), omega (arith, ints))
+pub near-fits : (n : ℕ) (z : ℤ) → n ≤ 100000000000 → Near n z → SFits w64 z
+near-fits n (pos k) h near = record { sfits = omega (arith, ints) }
+near-fits n (negsuc k) h near = record { sfits = omega (arith, ints) }
 
--- the cost of so many tenths at one price fits its type
-pub product-small : (n : ℕ) (p : ℤ) → n ≤ 10000 → negsuc 199999 ≤ℤ p → p ≤ℤ pos 200000 → (negℤ (pos 2000000000) ≤ℤ (pos n *ℤ p)) × ((pos n *ℤ p) ≤ℤ pos 2000000000)
-product-small n (pos p) h low high =
+pub total-near : (ps : List ℤ) → All InRange ps → Near (100000 * length ps) (total ps)
+total-near [] h = (omega (arith, ints), omega (arith, ints))
+total-near (p ∷ ps) h = let k = total-near ps (h .1) in (omega (arith, ints), omega (arith, ints))
+
+-- the cost of so many tenths at one price
+pub product-near : (n : ℕ) (p : ℤ) → n ≤ 10000 → negsuc 199999 ≤ℤ p → p ≤ℤ pos 200000 → Near 2000000000 (pos n *ℤ p)
+product-near n (pos p) h low high =
   let l : n * p ≤ 10000 * 200000 = let k : p ≤ 200000 = omega (arith, ints) in mul-le-mul h k in
   (omega (arith, ints), omega (arith, ints))
-product-small n (negsuc p) h low high =
+product-near n (negsuc p) h low high =
   let l : n * suc p ≤ 10000 * 200000 = let k : suc p ≤ 200000 = omega (arith, ints) in mul-le-mul h k in
   (omega (arith, ints), omega (arith, ints))

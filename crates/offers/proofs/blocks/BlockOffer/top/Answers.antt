@@ -1,0 +1,12 @@
+use native.Mathlib.Omega.{arith}
+use mathlib.Core.Path.{ap}
+use Rattle.std.specs.Of.Vec.{vec-items}
+use Rattle.offers.specs.Blocks.{spread}
+use lib.ListN.{length}
+use Rattle.offers.proofs.Spreads.{lawful-spread}
+use Rattle.offers.proofs.blocks.BlockOffer.top.Needs as need
+
+pub top-of-requires : need.top-of-requires
+top-of-requires c κs =
+  let l = lawful-spread (vec-items (c .args .self .now .blocks)) (c .args .self .now .faultless) .few in
+  rw (c .as-slice .ensures .value) l

@@ -2,3 +2,4 @@ pub mod Sums
 pub mod Rising
 pub mod Piles
 pub mod Spreads
+pub mod Questions

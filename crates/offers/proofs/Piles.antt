@@ -234,12 +234,12 @@ last-over : (p : ℤ) (ps : List ℤ) → Rises p ps → p ≤ℤ lastOf p ps
 last-over p [] r = omega (arith, ints)
 last-over p (x ∷ xs) r = let k : p ≤ℤ x = r .0 in let e = last-over x xs (r .1) in omega (arith, ints)
 
-last-getD : (p : ℤ) (ps : List ℤ) → getD (p ∷ ps) (length ps) (pos 0) ≡ lastOf p ps
+pub last-getD : (p : ℤ) (ps : List ℤ) → getD (p ∷ ps) (length ps) (pos 0) ≡ lastOf p ps
 last-getD p [] = refl
 last-getD p (x ∷ xs) = last-getD x xs
 
 -- Whether every sum stays in range shows at the first price and at the last.
-keeps-by-ends : (n p : ℤ) (ps : List ℤ) → Rises p ps → allKeep n (p ∷ ps) ≡ (leZ lowestPrice (p +ℤ n) && leZ (lastOf p ps +ℤ n) highestPrice)
+pub keeps-by-ends : (n p : ℤ) (ps : List ℤ) → Rises p ps → allKeep n (p ∷ ps) ≡ (leZ lowestPrice (p +ℤ n) && leZ (lastOf p ps +ℤ n) highestPrice)
 keeps-by-ends n p [] r = grind (arith, ints)
 keeps-by-ends n p (x ∷ xs) r =
   let up : p ≤ℤ x = r .0 in
@@ -252,7 +252,7 @@ keeps-by-ends n p (x ∷ xs) r =
   ends a b c h k = grind (arith, ints)
 
 -- an adder that keeps every sum in range leaves each as it is
-raised-kept : (n : ℤ) (ps : List ℤ) → allKeep n ps ≡ true → raised n ps ≡ map (λ p. p +ℤ n) ps
+pub raised-kept : (n : ℤ) (ps : List ℤ) → allKeep n ps ≡ true → raised n ps ≡ map (λ p. p +ℤ n) ps
 raised-kept n [] h = refl
 raised-kept n (p ∷ ps) h =
   let both = and-parts (inRange (p +ℤ n)) (allKeep n ps) h in

@@ -23,10 +23,10 @@ use Rattle.std.specs.shelf.Lists.{All}
 use Rattle.offers.specs.declared.block.Block.{Block}
 use Rattle.offers.specs.declared.refusal.CurveRefusal.{CurveRefusal}
 use Rattle.offers.specs.declared.refusal.CurveRefusal.the-variants.{NoSuchTenth}
-use Rattle.offers.specs.Prices.{InRange, inRange, lowestPrice, highestTop, Rises, Lawful, total, upTo, priceOf, costOf}
+use Rattle.offers.specs.Prices.{Amount, InRange, inRange, lowestPrice, highestTop, Rises, Lawful, total, upTo, priceOf, costOf}
 use Rattle.offers.specs.Blocks.{spread, blockFault, orElse, faultFrom, fault, Kept}
 use Rattle.offers.proofs.Rising.{rises-from, rising-rises}
-use Rattle.offers.proofs.Sums.{Near, near-fits, product-near, times-suc, upTo-append, upTo-replicate}
+use Rattle.offers.proofs.Sums.{Near, near-fits, product-amount, times-suc, upTo-append, upTo-replicate}
 
 pub length-spread : (b : Block) (bs : List Block) → length (spread (b ∷ bs)) ≡ b .width + length (spread bs)
 length-spread b bs =
@@ -232,7 +232,7 @@ spent-more answer bs i h few kept tenths left taken z r t e same near =
   let k : Kept b = all-getD Kept bs i (blockAt [] 0) h kept in
   let p : toZ w64 (ofZ w64 (b .price)) ≡ b .price = omega (arith, ints) in
   let is : r ≡ pos taken *ℤ b .price = e ∙ ap (λ x. pos taken *ℤ x) p in
-  let small : Near 2000000000 r = subst (Near 2000000000) (sym is) (product-near taken (b .price) (omega arith) (omega (arith, ints)) (omega (arith, ints))) in
+  let small : Amount r = subst Amount (sym is) (product-amount taken (b .price) (omega arith) (omega (arith, ints)) (omega (arith, ints))) in
   let back : toZ w64 (ofZ w64 (z +ℤ toZ w64 (ofZ w64 r))) ≡ z +ℤ r = omega (arith, ints) in
   let step : spent tenths (left - min left (b .width)) (z +ℤ pos (min left (b .width)) *ℤ b .price) (drop (i + 1) bs) ≡ answer = sym (spent-next tenths left z b (drop (i + 1) bs)) ∙ sym (at-drop-more (spent tenths left z) bs i (blockAt [] 0) h) ∙ same in
   (near-fits 100000000000 (z +ℤ toZ w64 (ofZ w64 r)) (omega arith) (omega (arith, ints), omega (arith, ints)),

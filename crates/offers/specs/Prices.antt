@@ -55,6 +55,10 @@ abbrev pub upTo : ℤ → List ℤ → ℕ
 upTo p [] = 0
 upTo p (x ∷ xs) = cond (leZ x p) 1 0 + upTo p xs
 
+-- An amount in ticks of at most ten thousand tenths, at prices or at differences of two prices.
+abbrev pub Amount : ℤ → Type 0
+Amount z = (negsuc 1999999999 ≤ℤ z) × (z ≤ℤ pos 2000000000)
+
 -- The four answers that a list of prices gives.
 abbrev pub topOf : List ℤ → ℕ
 topOf ps = length ps

@@ -1,9 +1,9 @@
 // An adder over a lower curve.
 
 ghost use mathlib.Core.Path.{_≡_};
-ghost use lib.IntN.{pos, negsuc};
+ghost use lib.IntN.{pos, negsuc, _+ℤ_, _-ℤ_};
 ghost use lib.Signed.{_≤ℤ_};
-ghost use Rattle.offers.specs.Prices.{meant};
+ghost use Rattle.offers.specs.Prices.{meant, Amount};
 ghost use Rattle.offers.specs.Piles.{raised, adderAsked};
 use super::block::cost_of_all;
 use super::block::Block;
@@ -34,6 +34,27 @@ impl<C: OfferCurve + Drop> Adder<C> {
     }
 }
 
+// A cost under an adder by its parts, in ticks: the tenths up to the highest price, as below; of these the tenths that
+// stand at the lowest price, as below; what is added to the tenths between; the tenths at either limit.
+#[derive(Clone, Copy)]
+struct CostParts {
+    kept: i64,
+    lifted: i64,
+    added: i64,
+    floor: i64,
+    roof: i64,
+}
+
+fn sum_of(parts: CostParts) -> i64
+    requires { ⌜ Amount (parts .kept) × Amount (parts .lifted) × Amount (parts .added) × Amount (parts .floor) × Amount (parts .roof) ⌝ }
+    ensures { λ r. ⌜ r ≡ parts .floor +ℤ (parts .kept -ℤ parts .lifted) +ℤ parts .added +ℤ parts .roof ⌝ }
+{
+    let between = parts.kept - parts.lifted;
+    let lower = parts.floor + between;
+    let upper = parts.added + parts.roof;
+    lower + upper
+}
+
 pub impl<C: OfferCurve> OfferCurve for Adder<C> as AdderOffer {
     ghost prices = { λ c. raised (c .added) (C·OfferCurve .prices (c .lower)) };
 
@@ -52,11 +73,13 @@ pub impl<C: OfferCurve> OfferCurve for Adder<C> as AdderOffer {
         }
         let lifted = self.lower.count(LOWEST_PRICE - self.added).min(tenths);
         let kept = self.lower.count(HIGHEST_PRICE - self.added).min(tenths);
-        let cost = self.lower.cost(kept)? - self.lower.cost(lifted)?;
-        let added = cost_of_all(Block { width: kept - lifted, price: self.added });
-        let floor = cost_of_all(Block { width: lifted, price: LOWEST_PRICE });
-        let roof = cost_of_all(Block { width: tenths - kept, price: HIGHEST_PRICE });
-        Ok(floor + cost + added + roof)
+        Ok(sum_of(CostParts {
+            kept: self.lower.cost(kept)?,
+            lifted: self.lower.cost(lifted)?,
+            added: cost_of_all(Block { width: kept - lifted, price: self.added }),
+            floor: cost_of_all(Block { width: lifted, price: LOWEST_PRICE }),
+            roof: cost_of_all(Block { width: tenths - kept, price: HIGHEST_PRICE }),
+        }))
     }
 
     fn count(&self, price: i64) -> u64 {

@@ -24,8 +24,8 @@ use Rattle.offers.specs.declared.block.Block.{Block}
 use Rattle.offers.specs.declared.refusal.CurveRefusal.{CurveRefusal}
 use Rattle.offers.specs.declared.refusal.CurveRefusal.the-variants.{NoSuchTenth}
 use Rattle.offers.specs.Prices.{Amount, InRange, inRange, lowestPrice, highestTop, Rises, Lawful, total, upTo, priceOf, costOf}
-use Rattle.offers.specs.Blocks.{spread, blockFault, orElse, faultFrom, fault, Kept}
-use Rattle.offers.proofs.Rising.{rises-from, rising-rises}
+use Rattle.offers.specs.Blocks.{spread, blockFault, orElse, faultFrom, fault, Offered, Kept}
+use Rattle.offers.proofs.Rising.{rises-from, rising-rises, rises-rising}
 use Rattle.offers.proofs.Sums.{Near, near-fits, product-amount, times-suc, upTo-append, upTo-replicate}
 
 pub length-spread : (b : Block) (bs : List Block) → length (spread (b ∷ bs)) ≡ b .width + length (spread bs)
@@ -82,10 +82,11 @@ pub record SoundFrom (before : ℕ) (floor : ℤ) (bs : List Block) : Type 0 whe
   pub within : All InRange (spread bs)
   pub rises : Rises floor (spread bs)
   pub kept : All Kept bs
+  pub filled : All (λ b. 1 ≤ b .width) bs
   pub some : length bs ≤ length (spread bs)
 
 pub sound-from : (i before : ℕ) (floor : ℤ) (bs : List Block) → before ≤ highestTop → faultFrom i before floor bs ≡ None → SoundFrom before floor bs
-sound-from i before floor [] h e = record { few = omega arith; within = tt; rises = tt; kept = tt; some = omega arith }
+sound-from i before floor [] h e = record { few = omega arith; within = tt; rises = tt; kept = tt; filled = tt; some = omega arith }
 sound-from i before floor (b ∷ bs) h e =
   let both = or-none (blockFault i before floor b) (faultFrom (i + 1) (before + b .width) (b .price) bs) e in
   let here = sound-block i before floor b (both .0) in
@@ -95,6 +96,7 @@ sound-from i before floor (b ∷ bs) h e =
     few = let s = there .few in omega arith;
     within = all-append InRange (replicate (b .width) (b .price)) (spread bs) (all-replicate InRange (b .price) (b .width) (here .within)) (there .within);
     rises = rises-replicate floor (b .price) (b .width) (spread bs) (here .rises) (there .rises);
+    filled = (here .some, there .filled);
     kept = ((let s = here .few in omega arith, here .within), there .kept);
     some = let s = here .some in let t = there .some in omega arith }
 
@@ -146,6 +148,50 @@ lawful-spread bs h =
     few = let a = k .few in omega arith;
     within = k .within;
     rising = rising-rises lowestPrice (spread bs) (k .rises) }
+
+-- a list that begins with a full block begins with its price
+front-within : (n : ℕ) (p : ℤ) (ps : List ℤ) → 1 ≤ n → All InRange (replicate n p ++ ps) → InRange p × All InRange ps
+front-within zero p ps h a = absurd (omega arith)
+front-within (suc zero) p ps h a = (a .0, a .1)
+front-within (suc (suc n)) p ps h a = front-within (suc n) p ps (omega arith) (a .1)
+
+front-rises : (f : ℤ) (n : ℕ) (p : ℤ) (ps : List ℤ) → 1 ≤ n → Rises f (replicate n p ++ ps) → (f ≤ℤ p) × Rises p ps
+front-rises f zero p ps h r = absurd (omega arith)
+front-rises f (suc zero) p ps h r = (r .0, r .1)
+front-rises f (suc (suc n)) p ps h r = (r .0, front-rises p (suc n) p ps (omega arith) (r .1) .1)
+
+no-fault : (i before : ℕ) (floor : ℤ) (b : Block) → Sound before floor b → blockFault i before floor b ≡ None
+no-fault i before floor b s =
+  let some = s .some in
+  let few = s .few in
+  let w = s .within in
+  let r = s .rises in
+  let full : eqb (b .width) 0 ≡ false = grind (arith, tells) in
+  let fits : leb (before + b .width) highestTop ≡ true = grind (arith, tells) in
+  let range : inRange (b .price) ≡ true = grind (arith, ints) in
+  let up : leZ floor (b .price) ≡ true = grind (arith, ints) in
+  rw (full, fits, range, up)
+
+no-fault-from : (i before : ℕ) (floor : ℤ) (bs : List Block) → All (λ b. 1 ≤ b .width) bs → before + length (spread bs) ≤ highestTop → All InRange (spread bs) → Rises floor (spread bs) → faultFrom i before floor bs ≡ None
+no-fault-from i before floor [] full few within rises = refl
+no-fault-from i before floor (b ∷ bs) full few within rises =
+  let l = length-spread b bs in
+  let w = front-within (b .width) (b .price) (spread bs) (full .0) within in
+  let r = front-rises floor (b .width) (b .price) (spread bs) (full .0) rises in
+  let here = no-fault i before floor b (record { some = full .0; few = omega arith; within = w .0; rises = r .0 }) in
+  ap (λ o. orElse o (faultFrom (i + 1) (before + b .width) (b .price) bs)) here ∙ no-fault-from (i + 1) (before + b .width) (b .price) bs (full .1) (omega arith) (w .1) (r .1)
+
+-- just the blocks of which a curve can be made have no fault
+pub offered-faultless : (bs : List Block) → Offered bs → fault bs ≡ None
+offered-faultless bs o =
+  let few = o .lawful .few in
+  let none = no-fault-from 1 0 lowestPrice bs (o .filled) (omega arith) (o .lawful .within) (rises-rising (spread bs) (o .lawful .within) (o .lawful .rising)) in
+  sym (counted bs (o .some) (o .few)) ∙ none
+
+pub faultless-offered : (bs : List Block) → isSome (fault bs) ≡ false → Offered bs
+faultless-offered bs h =
+  let s = faultless bs h in
+  record { some = s .0; few = s .1; filled = s .2 .filled; lawful = lawful-spread bs h }
 
 -- ---- the price of a tenth
 

@@ -13,7 +13,8 @@ use Rattle.std.specs.declared.result.Result.the-variants.{Ok, Err}
 use Rattle.offers.specs.declared.block.Block.{Block}
 use Rattle.offers.specs.declared.refusal.CurveRefusal.{CurveRefusal}
 use Rattle.offers.specs.declared.refusal.CurveRefusal.the-variants.{BlockCount, EmptyBlock, TooWide, PriceOutOfRange, PriceFalls}
-use Rattle.offers.specs.Prices.{lowestPrice, highestTop, inRange, InRange}
+use Rattle.std.specs.shelf.Lists.{All}
+use Rattle.offers.specs.Prices.{lowestPrice, highestTop, inRange, InRange, Lawful}
 
 -- Each block has as many tenths as it is wide, all at its price.
 abbrev pub spread : List Block → List ℤ
@@ -50,6 +51,13 @@ unless (Some refusal) bs = Err refusal
 -- The blocks that a curve is asked to hold, or its refusal.
 abbrev pub blocksAsked : List Block → Result (List Block) CurveRefusal
 blocksAsked bs = unless (fault bs) bs
+
+-- The blocks of which a curve can be made, said at once: 1 to 10, none empty, with prices that keep the law of a curve.
+pub record Offered (bs : List Block) : Type 0 where
+  pub some : 1 ≤ length bs
+  pub few : length bs ≤ 10
+  pub filled : All (λ b. 1 ≤ b .width) bs
+  pub lawful : Lawful (spread bs)
 
 -- A block that a curve may hold.
 abbrev pub Kept : Block → Type 0

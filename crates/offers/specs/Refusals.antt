@@ -1,7 +1,10 @@
 -- The refusals of the curve layer: number, layer and place of each.
+use mathlib.Core.List.{List, _++_}
 use Prim.Native.Nat.{ℕ}
+use lib.Chars.{codes}
+use Rattle.std.specs.Written.{decimal}
 use Rattle.offers.specs.declared.refusal.Layer.{Layer}
-use Rattle.offers.specs.declared.refusal.Layer.the-variants.{Curve}
+use Rattle.offers.specs.declared.refusal.Layer.the-variants.{Curve, Process, Book}
 use Rattle.offers.specs.declared.refusal.CurveRefusal.{CurveRefusal}
 use Rattle.offers.specs.declared.refusal.CurveRefusal.the-variants.{BlockCount, EmptyBlock, TooWide, PriceOutOfRange, CapOutOfRange, AdderOutOfRange, PriceFalls, NoSuchTenth}
 
@@ -23,3 +26,19 @@ told CapOutOfRange = at 11 0
 told AdderOutOfRange = at 11 0
 told (PriceFalls block) = at 12 block
 told (NoSuchTenth tenth) = at 13 tenth
+
+abbrev pub layerName : Layer → List ℕ
+layerName Curve = codes "curve"
+layerName Process = codes "process"
+layerName Book = codes "book"
+
+-- What a refusal says, in bytes of text.
+abbrev pub sentence : CurveRefusal → List ℕ
+sentence BlockCount = codes "an offer has 1 to 10 blocks"
+sentence (EmptyBlock block) = codes "block " ++ (decimal block ++ codes " has no tenths")
+sentence (TooWide block) = codes "with block " ++ (decimal block ++ codes " the widths pass 10000 tenths")
+sentence (PriceOutOfRange block) = codes "the price of block " ++ (decimal block ++ codes " is not from -100000 to 100000")
+sentence CapOutOfRange = codes "the limit of the cap is not from -100000 to 100000"
+sentence AdderOutOfRange = codes "the adder takes a price out of -100000 to 100000"
+sentence (PriceFalls block) = codes "the price of block " ++ (decimal block ++ codes " is below that of the block before")
+sentence (NoSuchTenth tenth) = codes "the curve has no tenth " ++ decimal tenth

@@ -1,13 +1,14 @@
 // What a curve of blocks answers: each question takes one step a block.
 
 ghost use mathlib.Core.Path.{_≡_};
-ghost use mathlib.Core.Bool.{Bool};
-ghost use Prim.Native.Nat.{ℕ, _+_, _≤_};
+ghost use Prim.Native.Nat.{_≤_};
 ghost use lib.ListN.{length};
 ghost use Rattle.std.specs.Of.Vec.{vec-items};
+ghost use Rattle.std.specs.Orderings.{Decides};
+ghost use Rattle.std.specs.Results.{isOk};
 ghost use Rattle.std.specs.shelf.Lists.{All};
 ghost use Rattle.offers.specs.Prices.{meant, topOf, priceOf, costOf, countOf};
-ghost use Rattle.offers.specs.Blocks.{spread, fault, blockFault, blocksAsked, Kept};
+ghost use Rattle.offers.specs.Blocks.{spread, fault, blockFault, blocksAsked, Kept, Offered};
 use super::block::cost_of_all;
 use super::block::Block;
 use super::block_curve::BlockCurve;
@@ -123,7 +124,8 @@ impl BlockCurve {
     // A curve of these blocks, or their first fault: their number, then block by block an empty one, widths past the
     // highest top, a price out of range, and a price below the block before.
     pub fn new(blocks: Vec<Block>) -> Result<BlockCurve, CurveRefusal>
-        ensures { λ r. ⌜ meant (λ c. vec-items (c .blocks)) r ≡ blocksAsked (vec-items blocks) ⌝ }
+        ensures made { λ r. ⌜ meant (λ c. vec-items (c .blocks)) r ≡ blocksAsked (vec-items blocks) ⌝ }
+        ensures taken { λ r. ⌜ Decides (isOk r) (Offered (vec-items blocks)) ⌝ }
     {
         match first_fault(blocks.as_slice()) {
             Some(fault) => Err(fault),

@@ -1,4 +1,4 @@
-// Offer curves of generating units.
+// Offer curves of generating units: what the first tenths of a megawatt cost, and how many tenths run at a price.
 
 pub mod refusal;
 pub mod curve;
@@ -7,3 +7,23 @@ pub mod block_curve;
 pub mod blocks;
 pub mod capped;
 pub mod adder;
+
+pub use adder::Adder;
+pub use adder::AdderOffer;
+pub use block::Block;
+pub use block_curve::BlockCurve;
+pub use blocks::BlockOffer;
+pub use capped::Cap;
+pub use capped::CapOffer;
+pub use curve::OfferCurve;
+pub use curve::HIGHEST_PRICE;
+pub use curve::HIGHEST_TOP;
+pub use curve::LOWEST_PRICE;
+pub use refusal::CurveRefusal;
+pub use refusal::CurveRefusalDebug;
+pub use refusal::CurveRefusalDisplay;
+pub use refusal::CurveRefusalPartialEq;
+pub use refusal::Layer;
+pub use refusal::LayerDebug;
+pub use refusal::LayerDisplay;
+pub use refusal::LayerPartialEq;

@@ -1,7 +1,9 @@
 // The refusals of the curve layer.
 
 ghost use mathlib.Core.Path.{_≡_};
-ghost use Rattle.offers.specs.Refusals.{told};
+ghost use Rattle.std.specs.declared.option.Option.the-variants.{Some};
+ghost use Rattle.offers.specs.Refusals.{told, sentence, layerName};
+use std::fmt;
 
 // The layers of the library that may refuse.
 #[derive(Clone, Copy, Debug, PartialEq, Eq)]
@@ -52,6 +54,39 @@ impl CurveRefusal {
             CurveRefusal::EmptyBlock(block) | CurveRefusal::TooWide(block) => block,
             CurveRefusal::PriceOutOfRange(block) | CurveRefusal::PriceFalls(block) => block,
             CurveRefusal::NoSuchTenth(tenth) => tenth,
+        }
+    }
+}
+
+pub impl fmt::Display for Layer as LayerDisplay {
+    ghost shown = { λ layer. Some (layerName layer) };
+
+    fn fmt<W: fmt::Write>(&self, f: &mut fmt::Formatter<W>) -> fmt::Result {
+        match *self {
+            Layer::Curve => write!(f, "curve"),
+            Layer::Process => write!(f, "process"),
+            Layer::Book => write!(f, "book"),
+        }
+    }
+}
+
+pub impl fmt::Display for CurveRefusal as CurveRefusalDisplay {
+    ghost shown = { λ refusal. Some (sentence refusal) };
+
+    fn fmt<W: fmt::Write>(&self, f: &mut fmt::Formatter<W>) -> fmt::Result {
+        match *self {
+            CurveRefusal::BlockCount => write!(f, "an offer has 1 to 10 blocks"),
+            CurveRefusal::EmptyBlock(block) => write!(f, "block {block} has no tenths"),
+            CurveRefusal::TooWide(block) => write!(f, "with block {block} the widths pass 10000 tenths"),
+            CurveRefusal::PriceOutOfRange(block) => {
+                write!(f, "the price of block {block} is not from -100000 to 100000")
+            }
+            CurveRefusal::CapOutOfRange => write!(f, "the limit of the cap is not from -100000 to 100000"),
+            CurveRefusal::AdderOutOfRange => write!(f, "the adder takes a price out of -100000 to 100000"),
+            CurveRefusal::PriceFalls(block) => {
+                write!(f, "the price of block {block} is below that of the block before")
+            }
+            CurveRefusal::NoSuchTenth(tenth) => write!(f, "the curve has no tenth {tenth}"),
         }
     }
 }

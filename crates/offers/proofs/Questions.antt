@@ -27,7 +27,7 @@ use Rattle.offers.proofs.Rising.{rises-rising, upTo-mono}
 use Rattle.offers.proofs.Piles.{total-capped, total-raised, lastOf, last-getD, keeps-by-ends, raised-kept}
 
 -- the price of a tenth, after each price is changed
-pub price-map : (m : ℤ → ℤ) (ps : List ℤ) (t : ℕ) → meant m (priceOf ps t) ≡ priceOf (map m ps) t
+price-map : (m : ℤ → ℤ) (ps : List ℤ) (t : ℕ) → meant m (priceOf ps t) ≡ priceOf (map m ps) t
 price-map m ps t = go (leb 1 t && leb t (length ps)) refl
   where
   go : (b : Bool) → (leb 1 t && leb t (length ps)) ≡ b → meant m (cond b (Ok (getD ps (t - 1) (pos 0))) (Err (NoSuchTenth t))) ≡ priceOf (map m ps) t
@@ -44,10 +44,16 @@ price-map m ps t = go (leb 1 t && leb t (length ps)) refl
     let test : (leb 1 t && leb t (length (map m ps))) ≡ false = rw same e in
     rw test
 
-pub price-first : (p : ℤ) (ps : List ℤ) → priceOf (p ∷ ps) 1 ≡ Ok p
+pub price-refused : (m : ℤ → ℤ) (ps : List ℤ) (t : ℕ) (e : CurveRefusal) → Err e ≡ priceOf ps t → Err e ≡ priceOf (map m ps) t
+price-refused m ps t e h = ap (meant m) h ∙ price-map m ps t
+
+pub price-changed : (m : ℤ → ℤ) (ps : List ℤ) (t : ℕ) (p r : ℤ) → r ≡ m p → Ok p ≡ priceOf ps t → Ok r ≡ priceOf (map m ps) t
+price-changed m ps t p r is h = ap Ok is ∙ ap (meant m) h ∙ price-map m ps t
+
+price-first : (p : ℤ) (ps : List ℤ) → priceOf (p ∷ ps) 1 ≡ Ok p
 price-first p ps = let t : leb 1 (suc (length ps)) ≡ true = grind (arith, tells) in rw t
 
-pub price-last : (p : ℤ) (ps : List ℤ) → priceOf (p ∷ ps) (length (p ∷ ps)) ≡ Ok (lastOf p ps)
+price-last : (p : ℤ) (ps : List ℤ) → priceOf (p ∷ ps) (length (p ∷ ps)) ≡ Ok (lastOf p ps)
 price-last p ps =
   let t : leb 1 (suc (length ps)) ≡ true = grind (arith, tells) in
   let s : leb (suc (length ps)) (suc (length ps)) ≡ true = grind (arith, tells) in
@@ -111,13 +117,13 @@ pub range-back : (p : ℤ) → InRange p → toZ w64 (ofZ w64 p) ≡ p
 range-back p h = omega (arith, ints)
 
 -- the lower of a price and a limit, as the machine works it out
-pub min-back : (limit p m : ℤ) → InRange limit → InRange p → m ≡ minZ (toZ w64 (ofZ w64 p)) (toZ w64 (ofZ w64 limit)) → toZ w64 (ofZ w64 m) ≡ minZ limit p
+pub min-back : (limit p m : ℤ) → InRange limit → InRange p → m ≡ minZ (toZ w64 (ofZ w64 limit)) (toZ w64 (ofZ w64 p)) → toZ w64 (ofZ w64 m) ≡ minZ limit p
 min-back limit p m h k e =
   let a = range-back p k in
   let b = range-back limit h in
-  let is : m ≡ minZ p limit = e ∙ rw (a, b) in
+  let is : m ≡ minZ limit p = e ∙ rw (a, b) in
   let r : InRange m = rw is (grind (arith, ints), grind (arith, ints)) in
-  range-back m r ∙ is ∙ grind (arith, ints)
+  range-back m r ∙ is
 
 -- the cost under a cap, from the count and the cost below and the cost at the limit, as the machine works it out
 module _ (limit : ℤ) (ps : List ℤ) (q under count : ℕ) (cost r : ℤ) (range : InRange limit) (l : Lawful ps) (h : q ≤ length ps) (counted : count ≡ upTo (toZ w64 (ofZ w64 limit)) ps) (least : under ≡ min count q) (below : Ok cost ≡ costOf ps under) (at : r ≡ pos (q - under) *ℤ toZ w64 (ofZ w64 limit)) where

@@ -137,7 +137,7 @@ impl BlockCurve {
     pub fn blocks(&self) -> &[Block]
         ensures { λ r. ⌜ now r ≡ vec-items (now (self .entry) .blocks) ⌝ }
     {
-        self.blocks.as_slice()
+        &self.blocks
     }
 }
 

@@ -2,6 +2,7 @@
 
 ghost use mathlib.Core.Path.{_≡_};
 ghost use lib.Signed.{_≤ℤ_};
+ghost use Rattle.std.specs.Numbers.{minZ};
 ghost use Rattle.offers.specs.Prices.{lowestPrice, highestPrice, meant};
 ghost use Rattle.offers.specs.Piles.{capped, capAsked};
 use super::block::cost_of_all;
@@ -17,6 +18,12 @@ pub struct Cap<C> {
     lower: C,
     limit: i64,
     ghost within: { (lowestPrice ≤ℤ limit) × (limit ≤ℤ highestPrice) },
+}
+
+fn lower_of(price: i64, limit: i64) -> i64
+    ensures { λ r. ⌜ r ≡ minZ limit price ⌝ }
+{
+    price.min(limit)
 }
 
 impl<C: OfferCurve + Drop> Cap<C> {
@@ -40,7 +47,7 @@ pub impl<C: OfferCurve> OfferCurve for Cap<C> as CapOffer {
 
     fn price(&self, tenth: u64) -> Result<i64, CurveRefusal> {
         let price = self.lower.price(tenth)?;
-        Ok(price.min(self.limit))
+        Ok(lower_of(price, self.limit))
     }
 
     fn cost(&self, tenths: u64) -> Result<i64, CurveRefusal> {

@@ -63,9 +63,9 @@ pub impl fmt::Display for Layer as LayerDisplay {
 
     fn fmt<W: fmt::Write>(&self, f: &mut fmt::Formatter<W>) -> fmt::Result {
         match *self {
-            Layer::Curve => write!(f, "curve"),
-            Layer::Process => write!(f, "process"),
-            Layer::Book => write!(f, "book"),
+            Self::Curve => write!(f, "curve"),
+            Self::Process => write!(f, "process"),
+            Self::Book => write!(f, "book"),
         }
     }
 }

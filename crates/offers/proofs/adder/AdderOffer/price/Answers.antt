@@ -1,18 +1,15 @@
-use mathlib.Core.Path.{_≡_, sym, ap, _∙_}
-use lib.IntN.{ℤ, _+ℤ_}
+use mathlib.Core.Path.{_≡_}
+use lib.IntN.{_+ℤ_}
 use Rattle.std.proofs.shelf.Results.{err-from-errBy}
-use Rattle.std.specs.declared.result.Result.the-variants.{Ok}
 use Rattle.offers.specs.Piles.{clamped}
-use Rattle.offers.specs.Prices.{meant}
-use Rattle.offers.proofs.Questions.{price-map, price-within, raised-fits, clamp-back}
+use Rattle.offers.proofs.Questions.{price-refused, price-changed, price-within, raised-fits, clamp-back}
 use Rattle.offers.proofs.adder.AdderOffer.price.Needs as need
 
 pub returns-in-Break-price : need.returns-in-Break-price
 returns-in-Break-price g c =
-  let m : ℤ → ℤ = λ p. clamped (p +ℤ c .args .self .now .added) in
-  let ps = g .C·OfferCurve .prices (c .args .self .now .lower) in
+  let s = c .args .self .now in
   let e = err-from-errBy (c .from-residual .result) (c .from-residual .ensures .1) in
-  rw (e .1, e .2) (ap (meant m) (c .in-Break-price .ensures tt) ∙ price-map m ps (c .args .tenth))
+  rw (e .1, e .2) (price-refused (λ p. clamped (p +ℤ s .added)) (g .C·OfferCurve .prices (s .lower)) (c .args .tenth) _ (c .in-Break-price .ensures tt))
 
 pub add-price : need.add-price
 add-price g c =
@@ -24,9 +21,8 @@ add-price g c =
 pub returns : need.returns
 returns g c =
   let s = c .args .self .now in
-  let m : ℤ → ℤ = λ p. clamped (p +ℤ s .added) in
   let ps = g .C·OfferCurve .prices (s .lower) in
   let p = c .in-Continue-price .price in
   let within = price-within ps (c .args .tenth) p (g .C·OfferCurve·met .lawful (s .lower)) (c .in-Continue-price .ensures tt) in
-  let e = clamp-back (s .added) p within (s .modest .0) (s .modest .1) (c .clamp .result) (c .clamp .ensures .value) in
-  ap Ok e ∙ ap (meant m) (c .in-Continue-price .ensures tt) ∙ price-map m ps (c .args .tenth)
+  let is = clamp-back (s .added) p within (s .modest .0) (s .modest .1) (c .clamp .result) (c .clamp .ensures .value) in
+  price-changed (λ p. clamped (p +ℤ s .added)) ps (c .args .tenth) p _ is (c .in-Continue-price .ensures tt)

@@ -72,8 +72,27 @@ fn first_fault_counts(rt: LibcRuntime) -> Result<(), Fail> {
 fn answers_of_b(rt: LibcRuntime) -> Result<(), Fail> {
     let b = curve_b(rt.alloc())?;
     check_prices(&b, &[(1, 2_000), (100, 2_000), (101, 3_000), (200, 3_000)])?;
-    check_costs(&b, &[(0, 0), (1, 2_000), (100, 200_000), (101, 203_000), (200, 500_000)])?;
-    check_counts(&b, &[(i64::MIN, 0), (1_999, 0), (2_000, 100), (2_999, 100), (3_000, 200), (i64::MAX, 200)])?;
+    check_costs(
+        &b,
+        &[
+            (0, 0),
+            (1, 2_000),
+            (100, 200_000),
+            (101, 203_000),
+            (200, 500_000),
+        ],
+    )?;
+    check_counts(
+        &b,
+        &[
+            (i64::MIN, 0),
+            (1_999, 0),
+            (2_000, 100),
+            (2_999, 100),
+            (3_000, 200),
+            (i64::MAX, 200),
+        ],
+    )?;
     check_beyond(&b, 200)
 }
 
@@ -108,11 +127,26 @@ fn sentences(rt: LibcRuntime) -> Result<(), Fail> {
     let table = [
         (CurveRefusal::BlockCount, "an offer has 1 to 10 blocks"),
         (CurveRefusal::EmptyBlock(1), "block 1 has no tenths"),
-        (CurveRefusal::TooWide(10), "with block 10 the widths pass 10000 tenths"),
-        (CurveRefusal::PriceOutOfRange(2), "the price of block 2 is not from -100000 to 100000"),
-        (CurveRefusal::CapOutOfRange, "the limit of the cap is not from -100000 to 100000"),
-        (CurveRefusal::AdderOutOfRange, "the adder takes a price out of -100000 to 100000"),
-        (CurveRefusal::PriceFalls(2), "the price of block 2 is below that of the block before"),
+        (
+            CurveRefusal::TooWide(10),
+            "with block 10 the widths pass 10000 tenths",
+        ),
+        (
+            CurveRefusal::PriceOutOfRange(2),
+            "the price of block 2 is not from -100000 to 100000",
+        ),
+        (
+            CurveRefusal::CapOutOfRange,
+            "the limit of the cap is not from -100000 to 100000",
+        ),
+        (
+            CurveRefusal::AdderOutOfRange,
+            "the adder takes a price out of -100000 to 100000",
+        ),
+        (
+            CurveRefusal::PriceFalls(2),
+            "the price of block 2 is below that of the block before",
+        ),
         (CurveRefusal::NoSuchTenth(201), "the curve has no tenth 201"),
     ];
     for (refusal, words) in table {

@@ -84,9 +84,25 @@ fn cap_over_adder(rt: LibcRuntime) -> Result<(), Fail> {
     let Ok(pile) = Cap::new(adder, 2_500) else {
         return Err(Fail::new("refused"));
     };
-    check_prices(&pile, &[(1, 2_300), (100, 2_300), (101, 2_500), (200, 2_500)])?;
-    check_costs(&pile, &[(0, 0), (100, 230_000), (101, 232_500), (200, 480_000)])?;
-    check_counts(&pile, &[(i64::MIN, 0), (2_299, 0), (2_300, 100), (2_499, 100), (2_500, 200), (i64::MAX, 200)])?;
+    check_prices(
+        &pile,
+        &[(1, 2_300), (100, 2_300), (101, 2_500), (200, 2_500)],
+    )?;
+    check_costs(
+        &pile,
+        &[(0, 0), (100, 230_000), (101, 232_500), (200, 480_000)],
+    )?;
+    check_counts(
+        &pile,
+        &[
+            (i64::MIN, 0),
+            (2_299, 0),
+            (2_300, 100),
+            (2_499, 100),
+            (2_500, 200),
+            (i64::MAX, 200),
+        ],
+    )?;
     check_beyond(&pile, 200)
 }
 
@@ -99,9 +115,25 @@ fn adder_over_cap(rt: LibcRuntime) -> Result<(), Fail> {
     let Ok(pile) = Adder::new(cap, 300) else {
         return Err(Fail::new("refused"));
     };
-    check_prices(&pile, &[(1, 2_300), (100, 2_300), (101, 2_800), (200, 2_800)])?;
-    check_costs(&pile, &[(0, 0), (100, 230_000), (101, 232_800), (200, 510_000)])?;
-    check_counts(&pile, &[(i64::MIN, 0), (2_299, 0), (2_300, 100), (2_799, 100), (2_800, 200), (i64::MAX, 200)])?;
+    check_prices(
+        &pile,
+        &[(1, 2_300), (100, 2_300), (101, 2_800), (200, 2_800)],
+    )?;
+    check_costs(
+        &pile,
+        &[(0, 0), (100, 230_000), (101, 232_800), (200, 510_000)],
+    )?;
+    check_counts(
+        &pile,
+        &[
+            (i64::MIN, 0),
+            (2_299, 0),
+            (2_300, 100),
+            (2_799, 100),
+            (2_800, 200),
+            (i64::MAX, 200),
+        ],
+    )?;
     check_beyond(&pile, 200)
 }
 

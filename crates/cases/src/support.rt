@@ -12,10 +12,16 @@ use std::alloc::Global;
 use std::test::*;
 
 // The curve of blocks given as width and price, or its refusal.
-pub fn curve_of(heap: Global, pairs: &[(u64, i64)]) -> Result<Result<BlockCurve, CurveRefusal>, AllocError> {
+pub fn curve_of(
+    heap: Global,
+    pairs: &[(u64, i64)],
+) -> Result<Result<BlockCurve, CurveRefusal>, AllocError> {
     let mut blocks = Vec::new(heap);
     for (width, price) in pairs {
-        blocks.push(Block { width: *width, price: *price })?;
+        blocks.push(Block {
+            width: *width,
+            price: *price,
+        })?;
     }
     Ok(BlockCurve::new(blocks))
 }
@@ -35,7 +41,11 @@ pub fn check_refusal(refusal: CurveRefusal, number: u8, place: u64) -> Result<()
 }
 
 // That a make or a question is refused, with which number and place.
-pub fn check_refused<T: Drop>(told: Result<T, CurveRefusal>, number: u8, place: u64) -> Result<(), Fail> {
+pub fn check_refused<T: Drop>(
+    told: Result<T, CurveRefusal>,
+    number: u8,
+    place: u64,
+) -> Result<(), Fail> {
     match told {
         Ok(_) => Err(Fail::new("taken")),
         Err(refusal) => check_refusal(refusal, number, place),

@@ -36,28 +36,29 @@ rises-map m up f (p ∷ ps) r = (up f p (r .0), rises-map m up p ps (r .1))
 -- a change of prices that keeps their order and their range keeps the law
 pub lawful-map : (m : ℤ → ℤ) → ((a b : ℤ) → a ≤ℤ b → m a ≤ℤ m b) → ((p : ℤ) → InRange p → InRange (m p)) → (ps : List ℤ) → Lawful ps → Lawful (map m ps)
 lawful-map m up keeps ps l =
-  let e = length-map ps m in
-  record {
-    some = let s = l .some in omega arith;
-    few = let s = l .few in omega arith;
-    within = all-map InRange m ps (all-weaker InRange (λ p. InRange (m p)) keeps ps (l .within));
-    rising = rising-rises (m lowestPrice) (map m ps) (rises-map m up lowestPrice ps (rises-rising ps (l .within) (l .rising))) }
+    let e = length-map ps m in
+    record {
+      some = let s = l .some in omega arith;
+      few = let s = l .few in omega arith;
+      within = all-map InRange m ps (all-weaker InRange (λ p. InRange (m p)) keeps ps (l .within));
+      rising = rising-rises (m lowestPrice) (map m ps) (rises-map m up lowestPrice ps (rises-rising ps (l .within) (l .rising)));
+    }
 
 pub upTo-all : (q : ℤ) (ps : List ℤ) → All (λ p. p ≤ℤ q) ps → upTo q ps ≡ length ps
 upTo-all q [] h = refl
 upTo-all q (p ∷ ps) h =
-  let k : p ≤ℤ q = h .0 in
-  let t : leZ p q ≡ true = grind (arith, ints) in
-  let e = upTo-all q ps (h .1) in
-  simp t (omega arith)
+    let k : p ≤ℤ q = h .0 in
+    let t : leZ p q ≡ true = grind (arith, ints) in
+    let e = upTo-all q ps (h .1) in
+    simp t (omega arith)
 
 pub upTo-none : (q : ℤ) (ps : List ℤ) → All (λ p. q <ℤ p) ps → upTo q ps ≡ 0
 upTo-none q [] h = refl
 upTo-none q (p ∷ ps) h =
-  let k : q <ℤ p = h .0 in
-  let t : leZ p q ≡ false = grind (arith, ints) in
-  let e = upTo-none q ps (h .1) in
-  simp t (omega arith)
+    let k : q <ℤ p = h .0 in
+    let t : leZ p q ≡ false = grind (arith, ints) in
+    let e = upTo-none q ps (h .1) in
+    simp t (omega arith)
 
 -- above a price, nothing of what follows a higher one counts
 pub upTo-under : (q f : ℤ) (ps : List ℤ) → q <ℤ f → Rises f ps → upTo q ps ≡ 0
@@ -71,10 +72,10 @@ upTo-map m q r same (p ∷ ps) = let e = upTo-map m q r same ps in simp (same p)
 pub upTo-mono : (q r : ℤ) (ps : List ℤ) → q ≤ℤ r → upTo q ps ≤ upTo r ps
 upTo-mono q r [] h = omega arith
 upTo-mono q r (p ∷ ps) h =
-  go (leZ p q) (leZ p r) (grind (arith, ints)) (upTo-mono q r ps h)
+    go (leZ p q) (leZ p r) (grind (arith, ints)) (upTo-mono q r ps h)
   where
-  go : (s t : Bool) → (s ≡ true → t ≡ true) → upTo q ps ≤ upTo r ps → cond s 1 0 + upTo q ps ≤ cond t 1 0 + upTo r ps
-  go true true i e = omega arith
-  go false true i e = omega arith
-  go false false i e = omega arith
-  go true false i e = let f : false ≡ true = i refl in grind arith
+    go : (s t : Bool) → (s ≡ true → t ≡ true) → upTo q ps ≤ upTo r ps → cond s 1 0 + upTo q ps ≤ cond t 1 0 + upTo r ps
+    go true true i e = omega arith
+    go false true i e = omega arith
+    go false false i e = omega arith
+    go true false i e = let f : false ≡ true = i refl in grind arith

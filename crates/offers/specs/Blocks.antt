@@ -24,11 +24,11 @@ spread (b ∷ bs) = replicate (b .width) (b .price) ++ spread bs
 -- What is wrong with block number i, where so many tenths lie before it and its price may not be below the floor.
 abbrev pub blockFault : ℕ → ℕ → ℤ → Block → Option CurveRefusal
 blockFault i before floor b =
-  cond (eqb (b .width) 0) (Some (EmptyBlock i))
-  (cond (leb (before + b .width) highestTop)
+    cond (eqb (b .width) 0) (Some (EmptyBlock i))
+    (cond (leb (before + b .width) highestTop)
     (cond (inRange (b .price))
-      (cond (leZ floor (b .price)) None (Some (PriceFalls i)))
-      (Some (PriceOutOfRange i)))
+    (cond (leZ floor (b .price)) None (Some (PriceFalls i)))
+    (Some (PriceOutOfRange i)))
     (Some (TooWide i)))
 
 abbrev pub orElse : Option CurveRefusal → Option CurveRefusal → Option CurveRefusal
@@ -44,9 +44,9 @@ faultFrom i before floor (b ∷ bs) = orElse (blockFault i before floor b) (faul
 abbrev pub fault : List Block → Option CurveRefusal
 fault bs = cond (leb 1 (length bs) && leb (length bs) 10) (faultFrom 1 0 lowestPrice bs) (Some BlockCount)
 
-abbrev pub unless : Option CurveRefusal → List Block → Result (List Block) CurveRefusal
-unless None bs = Ok bs
-unless (Some refusal) bs = Err refusal
+abbrev pub unless : {X : Type 0} → Option CurveRefusal → X → Result X CurveRefusal
+unless None x = Ok x
+unless (Some refusal) x = Err refusal
 
 -- The blocks that a curve is asked to hold, or its refusal.
 abbrev pub blocksAsked : List Block → Result (List Block) CurveRefusal

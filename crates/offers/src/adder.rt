@@ -1,15 +1,16 @@
 // An adder over a lower curve.
 
 ghost use mathlib.Core.Path.{_≡_};
+ghost use Prim.Native.Nat.{_-_, _≤_};
 ghost use lib.IntN.{pos, negsuc, _+ℤ_, _-ℤ_};
 ghost use lib.Signed.{_≤ℤ_};
-ghost use Rattle.offers.specs.Prices.{meant, Amount};
+ghost use Rattle.offers.specs.Prices.{lowestPrice, highestPrice, inRange, meant, Amount};
 ghost use Rattle.offers.specs.Piles.{raised, adderAsked};
-use super::block::cost_of_all;
 use super::block::Block;
-use super::curve::OfferCurve;
+use super::block::cost_of_all;
 use super::curve::HIGHEST_PRICE;
 use super::curve::LOWEST_PRICE;
+use super::curve::OfferCurve;
 use super::refusal::CurveRefusal;
 
 // A curve with a number added to every price; a sum out of range stands at the nearer limit.
@@ -20,6 +21,14 @@ pub struct Adder<C> {
     ghost modest: { (negsuc 199999 ≤ℤ added) × (added ≤ℤ pos 200000) },
 }
 
+// Whether a price stays in range when a number is added to it.
+fn keeps(price: i64, added: i64) -> bool
+    ensures { λ r. ⌜ r ≡ inRange (price +ℤ added) ⌝ }
+{
+    let sum = price.saturating_add(added);
+    LOWEST_PRICE <= sum && sum <= HIGHEST_PRICE
+}
+
 impl<C: OfferCurve + Drop> Adder<C> {
     // An adder over a curve, refused where it would take a price out of range.
     pub fn new(lower: C, added: i64) -> Result<Adder<C>, CurveRefusal>
@@ -27,15 +36,45 @@ impl<C: OfferCurve + Drop> Adder<C> {
     {
         let first = lower.price(1)?;
         let last = lower.price(lower.top())?;
-        if first.saturating_add(added) < LOWEST_PRICE || last.saturating_add(added) > HIGHEST_PRICE {
-            return Err(CurveRefusal::AdderOutOfRange);
+        if keeps(first, added) && keeps(last, added) {
+            Ok(Adder { lower, added })
+        } else {
+            Err(CurveRefusal::AdderOutOfRange)
         }
-        Ok(Adder { lower, added })
     }
 }
 
-// A cost under an adder by its parts, in ticks: the tenths up to the highest price, as below; of these the tenths that
-// stand at the lowest price, as below; what is added to the tenths between; the tenths at either limit.
+// The first tenths under an adder, by where their sums stand: at the lowest price, in range, at the highest price.
+#[derive(Clone, Copy)]
+struct Split {
+    lifted: Block,
+    raised: Block,
+    cut: Block,
+}
+
+fn split_of(tenths: u64, lifted: u64, kept: u64, added: i64) -> Split
+    requires ordered { ⌜ lifted ≤ kept ⌝ }
+    requires within { ⌜ kept ≤ tenths ⌝ }
+    ensures { λ r. ⌜ r ≡ record { lifted = record { width = lifted; price = lowestPrice }; raised = record { width = kept - lifted; price = added }; cut = record { width = tenths - kept; price = highestPrice } } ⌝ }
+{
+    Split {
+        lifted: Block {
+            width: lifted,
+            price: LOWEST_PRICE,
+        },
+        raised: Block {
+            width: kept - lifted,
+            price: added,
+        },
+        cut: Block {
+            width: tenths - kept,
+            price: HIGHEST_PRICE,
+        },
+    }
+}
+
+// A cost under an adder by its parts, in ticks: what the lower curve asks for the tenths up to the last in range, and for
+// those before the first in range; what is added to the tenths in range; the tenths at either limit.
 #[derive(Clone, Copy)]
 struct CostParts {
     kept: i64,
@@ -73,12 +112,13 @@ pub impl<C: OfferCurve> OfferCurve for Adder<C> as AdderOffer {
         }
         let lifted = self.lower.count(LOWEST_PRICE - self.added).min(tenths);
         let kept = self.lower.count(HIGHEST_PRICE - self.added).min(tenths);
+        let parts = split_of(tenths, lifted, kept, self.added);
         Ok(sum_of(CostParts {
             kept: self.lower.cost(kept)?,
             lifted: self.lower.cost(lifted)?,
-            added: cost_of_all(Block { width: kept - lifted, price: self.added }),
-            floor: cost_of_all(Block { width: lifted, price: LOWEST_PRICE }),
-            roof: cost_of_all(Block { width: tenths - kept, price: HIGHEST_PRICE }),
+            added: cost_of_all(parts.raised),
+            floor: cost_of_all(parts.lifted),
+            roof: cost_of_all(parts.cut),
         }))
     }
 

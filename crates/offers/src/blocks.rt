@@ -1,21 +1,24 @@
 // What a curve of blocks answers: each question takes one step a block.
 
 ghost use mathlib.Core.Path.{_≡_};
-ghost use Prim.Native.Nat.{_≤_};
+ghost use mathlib.Core.Bool.{cond};
+ghost use Prim.Native.Nat.{_≤_, min};
+ghost use lib.Dec.{leb};
 ghost use lib.ListN.{length};
+ghost use lib.Signed.{leZ};
 ghost use Rattle.std.specs.Of.Vec.{vec-items};
 ghost use Rattle.std.specs.Orderings.{Decides};
 ghost use Rattle.std.specs.Results.{isOk};
 ghost use Rattle.std.specs.shelf.Lists.{All};
 ghost use Rattle.offers.specs.Prices.{meant, topOf, priceOf, costOf, countOf};
-ghost use Rattle.offers.specs.Blocks.{spread, fault, blockFault, blocksAsked, Kept, Offered};
-use super::block::cost_of_all;
+ghost use Rattle.offers.specs.Blocks.{spread, fault, blockFault, unless, blocksAsked, Kept, Offered};
 use super::block::Block;
+use super::block::cost_of_all;
 use super::block_curve::BlockCurve;
-use super::curve::OfferCurve;
 use super::curve::HIGHEST_PRICE;
 use super::curve::HIGHEST_TOP;
 use super::curve::LOWEST_PRICE;
+use super::curve::OfferCurve;
 use super::refusal::CurveRefusal;
 
 const MOST_BLOCKS: usize = 10;
@@ -40,53 +43,58 @@ fn block_fault(number: u64, before: u64, floor: i64, block: Block) -> Option<Cur
     None
 }
 
-// The first fault of a list of blocks.
-fn first_fault(blocks: &[Block]) -> Option<CurveRefusal>
-    ensures { λ r. ⌜ r ≡ fault (now (blocks .entry)) ⌝ }
+// The top of a list of blocks, or their first fault.
+fn checked_top(blocks: &[Block]) -> Result<u64, CurveRefusal>
+    ensures { λ r. ⌜ r ≡ unless (fault (now (blocks .entry))) (topOf (spread (now (blocks .entry)))) ⌝ }
 {
     if blocks.is_empty() || blocks.len() > MOST_BLOCKS {
-        return Some(CurveRefusal::BlockCount);
+        return Err(CurveRefusal::BlockCount);
     }
     let mut number = 0;
-    let mut before = 0;
+    let mut top = 0;
     let mut floor = LOWEST_PRICE;
     for block in blocks {
         number += 1;
-        let fault = block_fault(number, before, floor, *block);
-        if fault.is_some() {
-            return fault;
+        if let Some(fault) = block_fault(number, top, floor, *block) {
+            return Err(fault);
         }
-        before += block.width;
+        top += block.width;
         floor = block.price;
     }
-    None
+    Ok(top)
 }
 
-fn top_of(blocks: &[Block]) -> u64
-    requires { ⌜ length (spread (now blocks)) ≤ 10000 ⌝ }
-    ensures { λ r. ⌜ r ≡ topOf (spread (now (blocks .entry))) ⌝ }
+// Whether a tenth, counted from the first of a block, lies in the block.
+fn reaches(block: Block, tenth: u64) -> bool
+    ensures { λ r. ⌜ r ≡ leb tenth (block .width) ⌝ }
 {
-    let mut top = 0;
-    for block in blocks {
-        top += block.width;
-    }
-    top
+    tenth <= block.width
 }
 
 fn price_of(blocks: &[Block], tenth: u64) -> Result<i64, CurveRefusal>
     ensures { λ r. ⌜ r ≡ priceOf (spread (now (blocks .entry))) tenth ⌝ }
 {
     if tenth == 0 {
-        return Err(CurveRefusal::NoSuchTenth(tenth));
+        return Err(CurveRefusal::NoSuchTenth(0));
     }
     let mut left = tenth;
     for block in blocks {
-        if left <= block.width {
+        if reaches(*block, left) {
             return Ok(block.price);
         }
         left -= block.width;
     }
     Err(CurveRefusal::NoSuchTenth(tenth))
+}
+
+// The part of a block that the first tenths take, where so many of them are left.
+fn taken_of(block: Block, left: u64) -> Block
+    ensures { λ r. ⌜ r ≡ record { width = min left (block .width); price = block .price } ⌝ }
+{
+    Block {
+        width: left.min(block.width),
+        price: block.price,
+    }
 }
 
 fn cost_of(blocks: &[Block], tenths: u64) -> Result<i64, CurveRefusal>
@@ -97,14 +105,21 @@ fn cost_of(blocks: &[Block], tenths: u64) -> Result<i64, CurveRefusal>
     let mut left = tenths;
     let mut cost = 0;
     for block in blocks {
-        let taken = left.min(block.width);
-        cost += cost_of_all(Block { width: taken, price: block.price });
-        left -= taken;
+        let taken = taken_of(*block, left);
+        cost += cost_of_all(taken);
+        left -= taken.width;
     }
     if left > 0 {
         return Err(CurveRefusal::NoSuchTenth(tenths));
     }
     Ok(cost)
+}
+
+// How many tenths of a block are priced at most so.
+fn counted(block: Block, price: i64) -> u64
+    ensures { λ r. ⌜ r ≡ cond (leZ (block .price) price) (block .width) 0 ⌝ }
+{
+    if block.price <= price { block.width } else { 0 }
 }
 
 fn count_of(blocks: &[Block], price: i64) -> u64
@@ -113,9 +128,7 @@ fn count_of(blocks: &[Block], price: i64) -> u64
 {
     let mut count = 0;
     for block in blocks {
-        if block.price <= price {
-            count += block.width;
-        }
+        count += counted(*block, price);
     }
     count
 }
@@ -127,10 +140,8 @@ impl BlockCurve {
         ensures made { λ r. ⌜ meant (λ c. vec-items (c .blocks)) r ≡ blocksAsked (vec-items blocks) ⌝ }
         ensures taken { λ r. ⌜ Decides (isOk r) (Offered (vec-items blocks)) ⌝ }
     {
-        match first_fault(blocks.as_slice()) {
-            Some(fault) => Err(fault),
-            None => Ok(BlockCurve { blocks }),
-        }
+        let top = checked_top(blocks.as_slice())?;
+        Ok(BlockCurve { blocks, top })
     }
 
     // The blocks that the curve was made of.
@@ -145,7 +156,7 @@ pub impl OfferCurve for BlockCurve as BlockOffer {
     ghost prices = { λ c. spread (vec-items (c .blocks)) };
 
     fn top(&self) -> u64 {
-        top_of(self.blocks.as_slice())
+        self.top
     }
 
     fn price(&self, tenth: u64) -> Result<i64, CurveRefusal> {

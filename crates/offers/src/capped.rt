@@ -5,11 +5,11 @@ ghost use lib.Signed.{_≤ℤ_};
 ghost use Rattle.std.specs.Numbers.{minZ};
 ghost use Rattle.offers.specs.Prices.{lowestPrice, highestPrice, meant};
 ghost use Rattle.offers.specs.Piles.{capped, capAsked};
-use super::block::cost_of_all;
 use super::block::Block;
-use super::curve::OfferCurve;
+use super::block::cost_of_all;
 use super::curve::HIGHEST_PRICE;
 use super::curve::LOWEST_PRICE;
+use super::curve::OfferCurve;
 use super::refusal::CurveRefusal;
 
 // A curve of which no price is above a limit.
@@ -56,10 +56,20 @@ pub impl<C: OfferCurve> OfferCurve for Cap<C> as CapOffer {
         }
         let under = self.lower.count(self.limit).min(tenths);
         let cost = self.lower.cost(under)?;
-        Ok(cost + cost_of_all(Block { width: tenths - under, price: self.limit }))
+        Ok(
+            cost
+                + cost_of_all(Block {
+                    width: tenths - under,
+                    price: self.limit,
+                }),
+        )
     }
 
     fn count(&self, price: i64) -> u64 {
-        if price < self.limit { self.lower.count(price) } else { self.lower.top() }
+        if price < self.limit {
+            self.lower.count(price)
+        } else {
+            self.lower.top()
+        }
     }
 }

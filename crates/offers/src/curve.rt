@@ -11,6 +11,7 @@ pub const HIGHEST_TOP: u64 = 10_000;
 
 // The limits of a price, in cents per MWh.
 pub const LOWEST_PRICE: i64 = -100_000;
+
 pub const HIGHEST_PRICE: i64 = 100_000;
 
 // A curve means a list of prices, one for each tenth of a megawatt from 1 to its top. Each question is answered by that

@@ -1,12 +1,12 @@
 // Offer curves of generating units: what the first tenths of a megawatt cost, and how many tenths run at a price.
 
-pub mod refusal;
-pub mod curve;
+pub mod adder;
 pub mod block;
 pub mod block_curve;
 pub mod blocks;
 pub mod capped;
-pub mod adder;
+pub mod curve;
+pub mod refusal;
 
 pub use adder::Adder;
 pub use adder::AdderOffer;
@@ -15,10 +15,10 @@ pub use block_curve::BlockCurve;
 pub use blocks::BlockOffer;
 pub use capped::Cap;
 pub use capped::CapOffer;
-pub use curve::OfferCurve;
 pub use curve::HIGHEST_PRICE;
 pub use curve::HIGHEST_TOP;
 pub use curve::LOWEST_PRICE;
+pub use curve::OfferCurve;
 pub use refusal::CurveRefusal;
 pub use refusal::CurveRefusalDebug;
 pub use refusal::CurveRefusalDisplay;

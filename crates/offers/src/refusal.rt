@@ -33,7 +33,9 @@ impl CurveRefusal {
     {
         match *self {
             CurveRefusal::BlockCount | CurveRefusal::EmptyBlock(_) | CurveRefusal::TooWide(_) => 10,
-            CurveRefusal::PriceOutOfRange(_) | CurveRefusal::CapOutOfRange | CurveRefusal::AdderOutOfRange => 11,
+            CurveRefusal::PriceOutOfRange(_)
+            | CurveRefusal::CapOutOfRange
+            | CurveRefusal::AdderOutOfRange => 11,
             CurveRefusal::PriceFalls(_) => 12,
             CurveRefusal::NoSuchTenth(_) => 13,
         }
@@ -50,7 +52,9 @@ impl CurveRefusal {
         ensures { λ r. ⌜ r ≡ told (now (self .entry)) .place ⌝ }
     {
         match *self {
-            CurveRefusal::BlockCount | CurveRefusal::CapOutOfRange | CurveRefusal::AdderOutOfRange => 0,
+            CurveRefusal::BlockCount
+            | CurveRefusal::CapOutOfRange
+            | CurveRefusal::AdderOutOfRange => 0,
             CurveRefusal::EmptyBlock(block) | CurveRefusal::TooWide(block) => block,
             CurveRefusal::PriceOutOfRange(block) | CurveRefusal::PriceFalls(block) => block,
             CurveRefusal::NoSuchTenth(tenth) => tenth,
@@ -77,14 +81,29 @@ pub impl fmt::Display for CurveRefusal as CurveRefusalDisplay {
         match *self {
             CurveRefusal::BlockCount => write!(f, "an offer has 1 to 10 blocks"),
             CurveRefusal::EmptyBlock(block) => write!(f, "block {block} has no tenths"),
-            CurveRefusal::TooWide(block) => write!(f, "with block {block} the widths pass 10000 tenths"),
+            CurveRefusal::TooWide(block) => write!(
+                f,
+                "with block {block} the widths pass 10000 tenths"
+            ),
             CurveRefusal::PriceOutOfRange(block) => {
-                write!(f, "the price of block {block} is not from -100000 to 100000")
+                write!(
+                    f,
+                    "the price of block {block} is not from -100000 to 100000"
+                )
             }
-            CurveRefusal::CapOutOfRange => write!(f, "the limit of the cap is not from -100000 to 100000"),
-            CurveRefusal::AdderOutOfRange => write!(f, "the adder takes a price out of -100000 to 100000"),
+            CurveRefusal::CapOutOfRange => write!(
+                f,
+                "the limit of the cap is not from -100000 to 100000"
+            ),
+            CurveRefusal::AdderOutOfRange => write!(
+                f,
+                "the adder takes a price out of -100000 to 100000"
+            ),
             CurveRefusal::PriceFalls(block) => {
-                write!(f, "the price of block {block} is below that of the block before")
+                write!(
+                    f,
+                    "the price of block {block} is below that of the block before"
+                )
             }
             CurveRefusal::NoSuchTenth(tenth) => write!(f, "the curve has no tenth {tenth}"),
         }

@@ -11,17 +11,17 @@ use Rattle.offers.proofs.block.cost_of_all.Needs as need
 
 pub mul-result : need.mul-result
 mul-result c =
-  let b = c .args .block in
-  let f : SFits w64 (b .price) = search needs in
-  let w : toZ w64 (b .width) ≡ pos (b .width) = omega (arith, ints) in
-  let s = product-amount (b .width) (b .price) (c .pre .few) (c .pre .low) (c .pre .high) in
-  simp (toZ-ofZ, w) (amount-fits (pos (b .width) *ℤ b .price) s)
+    let b = c .args .block in
+    let f : SFits w64 (b .price) = search needs in
+    let w : toZ w64 (b .width) ≡ pos (b .width) = omega (arith, ints) in
+    let s = product-amount (b .width) (b .price) (c .pre .few) (c .pre .low) (c .pre .high) in
+    simp (toZ-ofZ, w) (amount-fits (pos (b .width) *ℤ b .price) s)
 
 pub returns : need.returns
 returns c =
-  let b = c .args .block in
-  let f : SFits w64 (b .price) = search needs in
-  let w : toZ w64 (b .width) ≡ pos (b .width) = omega (arith, ints) in
-  let s = product-amount (b .width) (b .price) (c .pre .few) (c .pre .low) (c .pre .high) in
-  let g : SFits w64 (pos (b .width) *ℤ b .price) = amount-fits (pos (b .width) *ℤ b .price) s in
-  simp (toZ-ofZ, w)
+    let b = c .args .block in
+    let f : SFits w64 (b .price) = search needs in
+    let w : toZ w64 (b .width) ≡ pos (b .width) = omega (arith, ints) in
+    let s = product-amount (b .width) (b .price) (c .pre .few) (c .pre .low) (c .pre .high) in
+    let g : SFits w64 (pos (b .width) *ℤ b .price) = amount-fits (pos (b .width) *ℤ b .price) s in
+    simp (toZ-ofZ, w)

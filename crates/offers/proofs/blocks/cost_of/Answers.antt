@@ -10,7 +10,7 @@ use Rattle.std.proofs.shelf.Elements.{all-getD}
 use Rattle.std.proofs.shelf.Lists.{at-drop-all, at-drop-more}
 use Rattle.std.proofs.shelf.Signed.{toZ-ofZ, ints}
 use Rattle.offers.specs.Blocks.{Kept}
-use Rattle.offers.proofs.Spreads.{blockAt, spent, spent-all, spent-over, spent-done, spent-more}
+use Rattle.offers.proofs.Spreads.{blockAt, spent, spent-all, spent-over, spent-done, spent-more, taken-kept, kept-wide}
 use Rattle.offers.proofs.blocks.cost_of.Needs as need
 
 pub loop-block-holds : need.loop-block-holds
@@ -18,26 +18,26 @@ loop-block-holds c = (spent-all (c .args .tenths) (c .args .blocks .now), (omega
 
 pub cost-of-all-cost-requires : need.cost-of-all-cost-requires
 cost-of-all-cost-requires c κs =
-  let kept = all-getD Kept (c .args .blocks .now) (c .loop-block .block-index) (blockAt [] 0) (c .loop-block-test .taken) (c .pre .kept) in
-  record { few = omega arith; low = omega (arith, ints); high = omega (arith, ints) }
+    let k = taken-kept (c .args .blocks .now) (c .loop-block .block-index) (c .loop-block-test .taken) (c .pre .kept) (c .loop-block .left) (c .taken-of-taken .result) (c .taken-of-taken .ensures) in
+    let wide = kept-wide (c .taken-of-taken .result) k in
+    record { few = k .0; low = wide .0; high = wide .1 }
 
 pub add-cost : need.add-cost
-add-cost c =
-  spent-more _ (c .args .blocks .now) (c .loop-block .block-index) (c .loop-block-test .taken) (c .pre .few) (c .pre .kept) (c .args .tenths) (c .loop-block .left) (c .min-taken .result) _ (c .cost-of-all-cost .result) (c .min-taken .ensures) (c .cost-of-all-cost .ensures) (c .loop-block .inv .0) (c .loop-block .inv .1) .0
+add-cost c = spent-more _ (c .args .blocks .now) (c .loop-block .block-index) (c .loop-block-test .taken) (c .pre .few) (c .pre .kept) (c .args .tenths) (c .loop-block .left) (c .taken-of-taken .result) _ (c .cost-of-all-cost .result) (c .taken-of-taken .ensures) (c .cost-of-all-cost .ensures) (c .loop-block .inv .0) (c .loop-block .inv .1) .0
 
 pub loop-block-again : need.loop-block-again
 loop-block-again c =
-  let next = spent-more _ (c .args .blocks .now) (c .loop-block .block-index) (c .loop-block-test .taken) (c .pre .few) (c .pre .kept) (c .args .tenths) (c .loop-block .left) (c .min-taken .result) _ (c .cost-of-all-cost .result) (c .min-taken .ensures) (c .cost-of-all-cost .ensures) (c .loop-block .inv .0) (c .loop-block .inv .1) in
-  (next .1, next .2)
+    let next = spent-more _ (c .args .blocks .now) (c .loop-block .block-index) (c .loop-block-test .taken) (c .pre .few) (c .pre .kept) (c .args .tenths) (c .loop-block .left) (c .taken-of-taken .result) _ (c .cost-of-all-cost .result) (c .taken-of-taken .ensures) (c .cost-of-all-cost .ensures) (c .loop-block .inv .0) (c .loop-block .inv .1) in
+    (next .1, next .2)
 
 pub returns-then-left-gt0 : need.returns-then-left-gt0
 returns-then-left-gt0 c =
-  let s = at-drop-all (spent (c .args .tenths) (c .loop-block .left) (c .loop-block .cost)) (c .args .blocks .now) (c .loop-block .block-index) (c .loop-block-test .left) in
-  let e = spent-over (c .args .tenths) (c .loop-block .left) (c .loop-block .cost) (omega arith) in
-  cc
+    let s = at-drop-all (spent (c .args .tenths) (c .loop-block .left) (c .loop-block .cost)) (c .args .blocks .now) (c .loop-block .block-index) (c .loop-block-test .left) in
+    let e = spent-over (c .args .tenths) (c .loop-block .left) (c .loop-block .cost) (omega arith) in
+    cc
 
 pub returns : need.returns
 returns c =
-  let s = at-drop-all (spent (c .args .tenths) (c .loop-block .left) (c .loop-block .cost)) (c .args .blocks .now) (c .loop-block .block-index) (c .loop-block-test .left) in
-  let e = spent-done (c .args .tenths) (c .loop-block .left) (c .loop-block .cost) (omega arith) in
-  cc
+    let s = at-drop-all (spent (c .args .tenths) (c .loop-block .left) (c .loop-block .cost)) (c .args .blocks .now) (c .loop-block .block-index) (c .loop-block-test .left) in
+    let e = spent-done (c .args .tenths) (c .loop-block .left) (c .loop-block .cost) (omega arith) in
+    cc

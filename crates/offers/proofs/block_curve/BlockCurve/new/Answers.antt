@@ -1,25 +1,17 @@
-use mathlib.Core.Path.{_≡_, refl, sym, ap, _∙_}
-use mathlib.Core.Bool.{true, false}
-use native.Mathlib.Omega.{arith}
-use Prim.Native.Nat.{ℕ}
+use mathlib.Core.Path.{_≡_, refl}
+use Rattle.std.proofs.shelf.Results.{err-from-errBy}
 use Rattle.std.proofs.shelf.Tests.{false≢true}
 use Rattle.std.specs.Of.Vec.{vec-items}
-use Rattle.std.specs.Options.{isSome}
-use Rattle.std.specs.declared.option.Option.the-variants.{None, Some}
-use Rattle.offers.specs.Blocks.{fault}
-use Rattle.offers.proofs.Spreads.{offered-faultless, faultless-offered}
+use Rattle.offers.proofs.Spreads.{refused-blocks, taken-blocks}
 use Rattle.offers.proofs.block_curve.BlockCurve.new.Needs as need
 
-pub returns-in-Some : need.returns-in-Some
-returns-in-Some c =
-  let bs = vec-items (c .args .blocks) in
-  let e : fault bs ≡ Some (c .in-Some .fault) = sym (c .in-Some .ensures tt ∙ ap fault (c .as-slice .ensures .value)) in
-  record {
-    made = rw e;
-    taken = (λ h. absurd (false≢true h), λ o. let n = offered-faultless bs o in let z : _≡_ {A = ℕ} 0 1 = cc in absurd (omega arith)) }
+pub returns-in-Break-top : need.returns-in-Break-top
+returns-in-Break-top c =
+    let e = err-from-errBy (c .from-residual .result) (c .from-residual .ensures .1) in
+    let n = refused-blocks (vec-items (c .args .blocks)) (c .as-slice .result .now) (c .as-slice .ensures .value) _ (c .in-Break-top .ensures tt) in
+    rw (e .1, e .2) (record { made = n .0; taken = (λ h. absurd (false≢true h), λ o. absurd (n .1 o)) })
 
-pub returns-in-None : need.returns-in-None
-returns-in-None c =
-  let bs = vec-items (c .args .blocks) in
-  let e : fault bs ≡ None = sym (c .in-None .ensures tt ∙ ap fault (c .as-slice .ensures .value)) in
-  record { made = rw e; taken = (λ _. faultless-offered bs (ap isSome e), λ _. refl) }
+pub returns : need.returns
+returns c =
+    let t = taken-blocks (vec-items (c .args .blocks)) (c .as-slice .result .now) (c .as-slice .ensures .value) (c .in-Continue-top .top) (c .in-Continue-top .ensures tt) in
+    record { made = t .0; taken = (λ _. t .1, λ _. refl) }

@@ -8,5 +8,5 @@ use Rattle.offers.proofs.blocks.BlockOffer.count.Needs as need
 
 pub count-of-requires : need.count-of-requires
 count-of-requires c κs =
-  let l = lawful-spread (vec-items (c .args .self .now .blocks)) (c .args .self .now .faultless) .few in
-  rw (c .as-slice .ensures .value) l
+    let l = lawful-spread (vec-items (c .args .self .now .blocks)) (c .args .self .now .faultless) .few in
+    rw (c .as-slice .ensures .value) l

@@ -125,7 +125,10 @@ fn largest_costs(rt: LibcRuntime) -> Result<(), Fail> {
 fn sentences(rt: LibcRuntime) -> Result<(), Fail> {
     let heap = rt.alloc();
     let table = [
-        (CurveRefusal::BlockCount, "an offer has 1 to 10 blocks"),
+        (
+            CurveRefusal::BlockCount,
+            "an offer has 1 to 10 blocks (place 0)",
+        ),
         (CurveRefusal::EmptyBlock(1), "block 1 has no tenths"),
         (
             CurveRefusal::TooWide(10),
@@ -137,11 +140,11 @@ fn sentences(rt: LibcRuntime) -> Result<(), Fail> {
         ),
         (
             CurveRefusal::CapOutOfRange,
-            "the limit of the cap is not from -100000 to 100000",
+            "the limit of the cap is not from -100000 to 100000 (place 0)",
         ),
         (
             CurveRefusal::AdderOutOfRange,
-            "the adder takes a price out of -100000 to 100000",
+            "the adder takes a price out of -100000 to 100000 (place 0)",
         ),
         (
             CurveRefusal::PriceFalls(2),

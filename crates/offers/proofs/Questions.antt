@@ -20,7 +20,8 @@ use Rattle.std.specs.declared.result.Result.{Result}
 use Rattle.std.specs.declared.result.Result.the-variants.{Ok, Err}
 use Rattle.offers.specs.declared.refusal.CurveRefusal.{CurveRefusal}
 use Rattle.offers.specs.declared.refusal.CurveRefusal.the-variants.{NoSuchTenth, AdderOutOfRange}
-use Rattle.offers.specs.Prices.{Amount, InRange, inRange, lowestPrice, highestPrice, Rising, Lawful, total, upTo, priceOf, costOf, meant}
+use Rattle.offers.specs.Prices.{InRange, inRange, lowestPrice, highestPrice, Rising, Lawful, total, upTo, priceOf, costOf, meant}
+use Rattle.offers.specs.Bounds.{Amount, Difference}
 use Rattle.offers.specs.Piles.{capped, clamped, raised, allKeep, adderAsked}
 use Rattle.offers.proofs.Sums.{near-fits, total-near, product-amount}
 use Rattle.offers.proofs.Rising.{rises-rising, upTo-mono}
@@ -146,7 +147,7 @@ module _ (limit : ℤ) (ps : List ℤ) (q under count : ℕ) (cost r : ℤ) (ran
   cost-small = subst Amount (sym cost-is) (cost-amount ps under l)
 
   high-small : Amount r
-  high-small = let top = l .few in subst Amount (sym at-limit) (product-amount (q - under) limit (omega arith) (omega (arith, ints)) (omega (arith, ints)))
+  high-small = let top = l .few in subst Amount (sym at-limit) (product-amount (q - under) limit (omega arith) (omega (arith, ints), omega (arith, ints)))
 
   pub capped-fits : SFits w64 (toZ w64 (ofZ w64 cost) +ℤ toZ w64 (ofZ w64 r))
   capped-fits = sum-back cost r cost-small high-small .0
@@ -159,7 +160,7 @@ module _ (limit : ℤ) (ps : List ℤ) (q under count : ℕ) (cost r : ℤ) (ran
       ap Ok (sum-back cost r cost-small high-small .1) ∙ sym (inside ∙ ap Ok (sum ∙ sym (ap (λ n. total (take n ps) +ℤ pos (q - n) *ℤ limit) under-is) ∙ sym (ap (λ z. z +ℤ pos (q - under) *ℤ limit) cost-is) ∙ sym (ap (λ z. cost +ℤ z) at-limit)))
 
 -- the sum of a price and a number, kept in range as the machine works it out
-module _ (n p : ℤ) (h : InRange p) (low : negsuc 199999 ≤ℤ n) (high : n ≤ℤ pos 200000) where
+module _ (n p : ℤ) (h : InRange p) (d : Difference n) where
   pub raised-fits : SFits w64 (toZ w64 (ofZ w64 p) +ℤ toZ w64 (ofZ w64 n))
   raised-fits = sum-back p n (omega (arith, ints), omega (arith, ints)) (omega (arith, ints), omega (arith, ints)) .0
 
@@ -211,7 +212,7 @@ module _ (kept lifted added floor roof : ℤ) (a : Amount kept × Amount lifted 
       rw (lower, upper) (omega (arith, ints))
 
 -- the cost under an adder, from the counts and the costs below, as the machine works it out
-module _ (n : ℤ) (ps : List ℤ) (q lifted kept low-count high-count : ℕ) (low : negsuc 199999 ≤ℤ n) (high : n ≤ℤ pos 200000) (l : Lawful ps) (h : q ≤ length ps) (low-counted : low-count ≡ upTo (toZ w64 (ofZ w64 (negsuc 99999 -ℤ toZ w64 (ofZ w64 n)))) ps) (high-counted : high-count ≡ upTo (toZ w64 (ofZ w64 (pos 100000 -ℤ toZ w64 (ofZ w64 n)))) ps) (lifted-least : lifted ≡ min low-count q) (kept-least : kept ≡ min high-count q) where
+module _ (n : ℤ) (ps : List ℤ) (q lifted kept low-count high-count : ℕ) (d : Difference n) (l : Lawful ps) (h : q ≤ length ps) (low-counted : low-count ≡ upTo (toZ w64 (ofZ w64 (negsuc 99999 -ℤ toZ w64 (ofZ w64 n)))) ps) (high-counted : high-count ≡ upTo (toZ w64 (ofZ w64 (pos 100000 -ℤ toZ w64 (ofZ w64 n)))) ps) (lifted-least : lifted ≡ min low-count q) (kept-least : kept ≡ min high-count q) where
   lifted-is : lifted ≡ min (upTo (lowestPrice -ℤ n) ps) q
   lifted-is = lifted-least ∙ ap (λ k. min k q) (low-counted ∙ ap (λ z. upTo z ps) (omega (arith, ints)))
 
@@ -245,9 +246,9 @@ module _ (n : ℤ) (ps : List ℤ) (q lifted kept low-count high-count : ℕ) (l
         let m = lifted-kept in (
           subst Amount (sym above-total) (cost-amount ps kept l),
           subst Amount (sym under-total) (cost-amount ps lifted l),
-          subst Amount (sym added-times) (product-amount (kept - lifted) n (omega arith) low high),
-          subst Amount (sym is-floor) (product-amount lifted lowestPrice (omega arith) (omega (arith, ints)) (omega (arith, ints))),
-          subst Amount (sym is-roof) (product-amount (q - kept) highestPrice (omega arith) (omega (arith, ints)) (omega (arith, ints))),
+          subst Amount (sym added-times) (product-amount (kept - lifted) n (omega arith) d),
+          subst Amount (sym is-floor) (product-amount lifted lowestPrice (omega arith) (omega (arith, ints), omega (arith, ints))),
+          subst Amount (sym is-roof) (product-amount (q - kept) highestPrice (omega arith) (omega (arith, ints), omega (arith, ints))),
         )
 
     pub raised-amounts : Amount (toZ w64 (ofZ w64 above)) × Amount (toZ w64 (ofZ w64 under)) × Amount (toZ w64 (ofZ w64 added)) × Amount (toZ w64 (ofZ w64 floor)) × Amount (toZ w64 (ofZ w64 roof))
@@ -315,13 +316,13 @@ module _ (n : ℤ) (ps : List ℤ) (top : ℕ) (first last : ℤ) (f : SFits w64
         let back = toZ-ofZ w64 n f in
         rw (back, e, raised-kept n ps e)
 
-    pub adder-modest : (negsuc 199999 ≤ℤ toZ w64 (ofZ w64 n)) × (toZ w64 (ofZ w64 n) ≤ℤ pos 200000)
+    pub adder-modest : Difference (toZ w64 (ofZ w64 n))
     adder-modest =
         let h = price-within ps 1 first l at-first in
         let k : inRange (first +ℤ n) ≡ true = ap inRange (sym first-sum) ∙ sym a ∙ yes-first in
         rw (toZ-ofZ w64 n f) (modest first n h k)
       where
-        modest : (p n : ℤ) → InRange p → inRange (p +ℤ n) ≡ true → (negsuc 199999 ≤ℤ n) × (n ≤ℤ pos 200000)
+        modest : (p n : ℤ) → InRange p → inRange (p +ℤ n) ≡ true → Difference n
         modest p n h k =
             let low : lowestPrice ≤ℤ (p +ℤ n) = grind (arith, ints) in
             let high : (p +ℤ n) ≤ℤ highestPrice = grind (arith, ints) in

@@ -23,8 +23,9 @@ use Rattle.std.specs.shelf.Lists.{All}
 use Rattle.offers.specs.declared.block.Block.{Block}
 use Rattle.offers.specs.declared.refusal.CurveRefusal.{CurveRefusal}
 use Rattle.offers.specs.declared.refusal.CurveRefusal.the-variants.{NoSuchTenth}
-use Rattle.offers.specs.Prices.{Amount, InRange, inRange, lowestPrice, highestTop, Rises, Lawful, total, upTo, priceOf, costOf}
-use Rattle.offers.specs.Blocks.{spread, blockFault, orElse, faultFrom, fault, unless, blocksAsked, Offered, Kept}
+use Rattle.offers.specs.Prices.{InRange, inRange, lowestPrice, highestTop, Rises, Lawful, total, upTo, priceOf, costOf}
+use Rattle.offers.specs.Bounds.{Amount, Difference, Kept}
+use Rattle.offers.specs.Blocks.{spread, blockFault, orElse, faultFrom, fault, unless, blocksAsked, Offered}
 use Rattle.offers.proofs.Rising.{rises-from, rising-rises, rises-rising}
 use Rattle.offers.proofs.Sums.{Near, near-fits, product-amount, times-suc, upTo-append, upTo-replicate}
 
@@ -299,14 +300,14 @@ taken-kept bs i h kept left taken t =
     let p : taken .price ≡ blockAt bs i .price = ap (λ b. b .price) t in
     (omega arith, rw p (k .1))
 
-pub kept-wide : (b : Block) → Kept b → (negsuc 199999 ≤ℤ b .price) × (b .price ≤ℤ pos 200000)
+pub kept-wide : (b : Block) → Kept b → Difference (b .price)
 kept-wide b k = (omega (arith, ints), omega (arith, ints))
 
 pub spent-more : (answer : Result ℤ CurveRefusal) (bs : List Block) (i : ℕ) → i < length bs → length bs ≤ 10 → All Kept bs → (tenths left : ℕ) (taken : Block) (z r : ℤ) → taken ≡ record { width = min left (blockAt bs i .width); price = blockAt bs i .price } → r ≡ pos (taken .width) *ℤ taken .price → spent tenths left z (drop i bs) ≡ answer → Near (2000000000 * i) z → SFits w64 (z +ℤ toZ w64 (ofZ w64 r)) × (spent tenths (left - taken .width) (toZ w64 (ofZ w64 (z +ℤ toZ w64 (ofZ w64 r)))) (drop (i + 1) bs) ≡ answer) × Near (2000000000 * (i + 1)) (toZ w64 (ofZ w64 (z +ℤ toZ w64 (ofZ w64 r))))
 spent-more answer bs i h few kept tenths left taken z r t e same near =
     let b = blockAt bs i in
     let k : Kept taken = taken-kept bs i h kept left taken t in
-    let small : Amount r = subst Amount (sym e) (product-amount (taken .width) (taken .price) (k .0) (omega (arith, ints)) (omega (arith, ints))) in
+    let small : Amount r = subst Amount (sym e) (product-amount (taken .width) (taken .price) (k .0) (kept-wide taken k)) in
     let back : toZ w64 (ofZ w64 (z +ℤ toZ w64 (ofZ w64 r))) ≡ z +ℤ r = omega (arith, ints) in
     let step : spent tenths (left - min left (b .width)) (z +ℤ pos (min left (b .width)) *ℤ b .price) (drop (i + 1) bs) ≡ answer = sym (spent-next tenths left z b (drop (i + 1) bs)) ∙ sym (at-drop-more (spent tenths left z) bs i (blockAt [] 0) h) ∙ same in (
       near-fits 100000000000 (z +ℤ toZ w64 (ofZ w64 r)) (omega arith) (omega (arith, ints), omega (arith, ints)),

@@ -14,7 +14,8 @@ use mir.Val.{SFits}
 use Rattle.std.proofs.shelf.Signed.{ints}
 use Rattle.std.proofs.shelf.Tests.{cases-bool}
 use Rattle.std.specs.shelf.Lists.{All}
-use Rattle.offers.specs.Prices.{Amount, InRange, total, upTo}
+use Rattle.offers.specs.Prices.{InRange, total, upTo}
+use Rattle.offers.specs.Bounds.{Amount, Difference}
 
 pub total-append : (xs ys : List ℤ) → total (xs ++ ys) ≡ total xs +ℤ total ys
 total-append [] ys = sym (+ℤ-idl (total ys))
@@ -73,11 +74,11 @@ total-near [] h = (omega (arith, ints), omega (arith, ints))
 total-near (p ∷ ps) h = let k = total-near ps (h .1) in (omega (arith, ints), omega (arith, ints))
 
 -- the cost of so many tenths at one price
-pub product-amount : (n : ℕ) (p : ℤ) → n ≤ 10000 → negsuc 199999 ≤ℤ p → p ≤ℤ pos 200000 → Amount (pos n *ℤ p)
-product-amount n (pos p) h low high =
+pub product-amount : (n : ℕ) (p : ℤ) → n ≤ 10000 → Difference p → Amount (pos n *ℤ p)
+product-amount n (pos p) h d =
     let l : n * p ≤ 10000 * 200000 = let k : p ≤ 200000 = omega (arith, ints) in mul-le-mul h k in
     (omega (arith, ints), omega (arith, ints))
-product-amount n (negsuc p) h low high =
+product-amount n (negsuc p) h d =
     let l : n * suc p ≤ 10000 * 200000 = let k : suc p ≤ 200000 = omega (arith, ints) in mul-le-mul h k in
     (omega (arith, ints), omega (arith, ints))
 

@@ -1,5 +1,5 @@
 -- Block curves: the prices that a list of blocks stands for, and which lists are refused.
-use mathlib.Core.Bool.{Bool, true, false, cond, _&&_}
+use mathlib.Core.Bool.{cond, _&&_}
 use mathlib.Core.List.{List, [], _∷_, _++_}
 use Prim.Native.Nat.{ℕ, _+_, _≤_}
 use lib.Dec.{leb, eqb}
@@ -14,7 +14,7 @@ use Rattle.offers.specs.declared.block.Block.{Block}
 use Rattle.offers.specs.declared.refusal.CurveRefusal.{CurveRefusal}
 use Rattle.offers.specs.declared.refusal.CurveRefusal.the-variants.{BlockCount, EmptyBlock, TooWide, PriceOutOfRange, PriceFalls}
 use Rattle.std.specs.shelf.Lists.{All}
-use Rattle.offers.specs.Prices.{lowestPrice, highestTop, inRange, InRange, Lawful}
+use Rattle.offers.specs.Prices.{lowestPrice, highestTop, inRange, Lawful}
 
 -- Each block has as many tenths as it is wide, all at its price.
 abbrev pub spread : List Block → List ℤ
@@ -58,7 +58,3 @@ pub record Offered (bs : List Block) : Type 0 where
   pub few : length bs ≤ 10
   pub filled : All (λ b. 1 ≤ b .width) bs
   pub lawful : Lawful (spread bs)
-
--- A block that a curve may hold.
-abbrev pub Kept : Block → Type 0
-Kept b = (b .width ≤ highestTop) × InRange (b .price)

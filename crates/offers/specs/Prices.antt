@@ -1,6 +1,5 @@
 -- What an offer curve means: a list of prices in cents per MWh, one for each tenth of a megawatt from 1 to its top.
-use mathlib.Core.Path.{_≡_}
-use mathlib.Core.Bool.{Bool, true, false, cond, _&&_}
+use mathlib.Core.Bool.{Bool, cond, _&&_}
 use mathlib.Core.List.{List, [], _∷_}
 use Prim.Native.Nat.{ℕ, _+_, _-_, _≤_}
 use lib.Dec.{leb}
@@ -55,10 +54,6 @@ abbrev pub upTo : ℤ → List ℤ → ℕ
 upTo p [] = 0
 upTo p (x ∷ xs) = cond (leZ x p) 1 0 + upTo p xs
 
--- An amount in ticks of at most ten thousand tenths, at prices or at differences of two prices.
-abbrev pub Amount : ℤ → Type 0
-Amount z = (negsuc 1999999999 ≤ℤ z) × (z ≤ℤ pos 2000000000)
-
 -- The four answers that a list of prices gives.
 abbrev pub topOf : List ℤ → ℕ
 topOf ps = length ps
@@ -72,7 +67,12 @@ costOf ps tenths = cond (leb tenths (length ps)) (Ok (total (take tenths ps))) (
 abbrev pub countOf : List ℤ → ℤ → ℕ
 countOf ps price = upTo price ps
 
--- What a made curve means, or the refusal that came in its place.
+-- What a made curve means, or the refusal of the make.
 abbrev pub meant : {C M : Type 0} → (C → M) → Result C CurveRefusal → Result M CurveRefusal
 meant means (Ok c) = Ok (means c)
 meant means (Err refusal) = Err refusal
+
+-- What a made curve answers, or the refusal of the make.
+abbrev pub answered : {M X : Type 0} → (M → Result X CurveRefusal) → Result M CurveRefusal → Result X CurveRefusal
+answered answer (Ok made) = answer made
+answered answer (Err refusal) = Err refusal

@@ -34,11 +34,11 @@ layerName Book = codes "book"
 
 -- What a refusal says, in bytes of text.
 abbrev pub sentence : CurveRefusal → List ℕ
-sentence BlockCount = codes "an offer has 1 to 10 blocks"
+sentence BlockCount = codes "an offer has 1 to 10 blocks (place 0)"
 sentence (EmptyBlock block) = codes "block " ++ (decimal block ++ codes " has no tenths")
 sentence (TooWide block) = codes "with block " ++ (decimal block ++ codes " the widths pass 10000 tenths")
 sentence (PriceOutOfRange block) = codes "the price of block " ++ (decimal block ++ codes " is not from -100000 to 100000")
-sentence CapOutOfRange = codes "the limit of the cap is not from -100000 to 100000"
-sentence AdderOutOfRange = codes "the adder takes a price out of -100000 to 100000"
+sentence CapOutOfRange = codes "the limit of the cap is not from -100000 to 100000 (place 0)"
+sentence AdderOutOfRange = codes "the adder takes a price out of -100000 to 100000 (place 0)"
 sentence (PriceFalls block) = codes "the price of block " ++ (decimal block ++ codes " is below that of the block before")
 sentence (NoSuchTenth tenth) = codes "the curve has no tenth " ++ decimal tenth

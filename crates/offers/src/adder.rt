@@ -2,9 +2,9 @@
 
 ghost use mathlib.Core.Path.{_≡_};
 ghost use Prim.Native.Nat.{_-_, _≤_};
-ghost use lib.IntN.{pos, negsuc, _+ℤ_, _-ℤ_};
-ghost use lib.Signed.{_≤ℤ_};
-ghost use Rattle.offers.specs.Prices.{lowestPrice, highestPrice, inRange, meant, Amount};
+ghost use lib.IntN.{_+ℤ_, _-ℤ_};
+ghost use Rattle.offers.specs.Prices.{lowestPrice, highestPrice, inRange, meant};
+ghost use Rattle.offers.specs.Bounds.{Amount, Difference};
 ghost use Rattle.offers.specs.Piles.{raised, adderAsked};
 use super::block::Block;
 use super::block::cost_of_all;
@@ -18,7 +18,8 @@ use super::refusal::CurveRefusal;
 pub struct Adder<C> {
     lower: C,
     added: i64,
-    ghost modest: { (negsuc 199999 ≤ℤ added) × (added ≤ℤ pos 200000) },
+    // Any other number takes every price out of range.
+    ghost modest: { Difference added },
 }
 
 // Whether a price stays in range when a number is added to it.
@@ -73,8 +74,8 @@ fn split_of(tenths: u64, lifted: u64, kept: u64, added: i64) -> Split
     }
 }
 
-// A cost under an adder by its parts, in ticks: what the lower curve asks for the tenths up to the last in range, and for
-// those before the first in range; what is added to the tenths in range; the tenths at either limit.
+// A cost under an adder by its parts, in ticks: the tenths up to the last in range at the lower curve's prices, of these
+// the tenths before the first in range, what is added to the tenths in range, and the tenths at either limit.
 #[derive(Clone, Copy)]
 struct CostParts {
     kept: i64,

@@ -10,8 +10,9 @@ ghost use Rattle.std.specs.Of.Vec.{vec-items};
 ghost use Rattle.std.specs.Orderings.{Decides};
 ghost use Rattle.std.specs.Results.{isOk};
 ghost use Rattle.std.specs.shelf.Lists.{All};
-ghost use Rattle.offers.specs.Prices.{meant, topOf, priceOf, costOf, countOf};
-ghost use Rattle.offers.specs.Blocks.{spread, fault, blockFault, unless, blocksAsked, Kept, Offered};
+ghost use Rattle.offers.specs.Prices.{highestTop, meant, topOf, priceOf, costOf, countOf};
+ghost use Rattle.offers.specs.Blocks.{spread, fault, blockFault, unless, blocksAsked, Offered};
+ghost use Rattle.offers.specs.Bounds.{Kept};
 use super::block::Block;
 use super::block::cost_of_all;
 use super::block_curve::BlockCurve;
@@ -25,7 +26,7 @@ const MOST_BLOCKS: usize = 10;
 
 // What is wrong with one block, where so many tenths lie before it and its price may not be below the floor.
 fn block_fault(number: u64, before: u64, floor: i64, block: Block) -> Option<CurveRefusal>
-    requires { ⌜ before ≤ 10000 ⌝ }
+    requires { ⌜ before ≤ highestTop ⌝ }
     ensures { λ r. ⌜ r ≡ blockFault number before floor block ⌝ }
 {
     if block.width == 0 {
@@ -115,7 +116,7 @@ fn cost_of(blocks: &[Block], tenths: u64) -> Result<i64, CurveRefusal>
     Ok(cost)
 }
 
-// How many tenths of a block are priced at most so.
+// How many tenths of a block are priced at this price or less.
 fn counted(block: Block, price: i64) -> u64
     ensures { λ r. ⌜ r ≡ cond (leZ (block .price) price) (block .width) 0 ⌝ }
 {
@@ -123,7 +124,7 @@ fn counted(block: Block, price: i64) -> u64
 }
 
 fn count_of(blocks: &[Block], price: i64) -> u64
-    requires { ⌜ length (spread (now blocks)) ≤ 10000 ⌝ }
+    requires { ⌜ length (spread (now blocks)) ≤ highestTop ⌝ }
     ensures { λ r. ⌜ r ≡ countOf (spread (now (blocks .entry))) price ⌝ }
 {
     let mut count = 0;

@@ -1,9 +1,8 @@
 // A cap over a lower curve.
 
 ghost use mathlib.Core.Path.{_≡_};
-ghost use lib.Signed.{_≤ℤ_};
 ghost use Rattle.std.specs.Numbers.{minZ};
-ghost use Rattle.offers.specs.Prices.{lowestPrice, highestPrice, meant};
+ghost use Rattle.offers.specs.Prices.{InRange, meant};
 ghost use Rattle.offers.specs.Piles.{capped, capAsked};
 use super::block::Block;
 use super::block::cost_of_all;
@@ -17,10 +16,10 @@ use super::refusal::CurveRefusal;
 pub struct Cap<C> {
     lower: C,
     limit: i64,
-    ghost within: { (lowestPrice ≤ℤ limit) × (limit ≤ℤ highestPrice) },
+    ghost within: { InRange limit },
 }
 
-fn lower_of(price: i64, limit: i64) -> i64
+fn at_most(price: i64, limit: i64) -> i64
     ensures { λ r. ⌜ r ≡ minZ limit price ⌝ }
 {
     price.min(limit)
@@ -47,7 +46,7 @@ pub impl<C: OfferCurve> OfferCurve for Cap<C> as CapOffer {
 
     fn price(&self, tenth: u64) -> Result<i64, CurveRefusal> {
         let price = self.lower.price(tenth)?;
-        Ok(lower_of(price, self.limit))
+        Ok(at_most(price, self.limit))
     }
 
     fn cost(&self, tenths: u64) -> Result<i64, CurveRefusal> {

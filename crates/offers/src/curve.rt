@@ -33,7 +33,7 @@ pub trait OfferCurve {
     fn cost(&self, tenths: u64) -> Result<i64, CurveRefusal>
         ensures { λ r. ⌜ r ≡ costOf (prices (now (self .entry))) tenths ⌝ };
 
-    // How many tenths are priced at most so.
+    // How many tenths are priced at this price or less.
     fn count(&self, price: i64) -> u64
         ensures { λ r. ⌜ r ≡ countOf (prices (now (self .entry))) price ⌝ };
 }

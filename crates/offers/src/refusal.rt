@@ -79,7 +79,7 @@ pub impl fmt::Display for CurveRefusal as CurveRefusalDisplay {
 
     fn fmt<W: fmt::Write>(&self, f: &mut fmt::Formatter<W>) -> fmt::Result {
         match *self {
-            CurveRefusal::BlockCount => write!(f, "an offer has 1 to 10 blocks"),
+            CurveRefusal::BlockCount => write!(f, "an offer has 1 to 10 blocks (place 0)"),
             CurveRefusal::EmptyBlock(block) => write!(f, "block {block} has no tenths"),
             CurveRefusal::TooWide(block) => write!(
                 f,
@@ -93,11 +93,11 @@ pub impl fmt::Display for CurveRefusal as CurveRefusalDisplay {
             }
             CurveRefusal::CapOutOfRange => write!(
                 f,
-                "the limit of the cap is not from -100000 to 100000"
+                "the limit of the cap is not from -100000 to 100000 (place 0)"
             ),
             CurveRefusal::AdderOutOfRange => write!(
                 f,
-                "the adder takes a price out of -100000 to 100000"
+                "the adder takes a price out of -100000 to 100000 (place 0)"
             ),
             CurveRefusal::PriceFalls(block) => {
                 write!(

@@ -14,7 +14,7 @@ mul-result c =
     let b = c .args .block in
     let f : SFits w64 (b .price) = search needs in
     let w : toZ w64 (b .width) ≡ pos (b .width) = omega (arith, ints) in
-    let s = product-amount (b .width) (b .price) (c .pre .few) (c .pre .low) (c .pre .high) in
+    let s = product-amount (b .width) (b .price) (c .pre .few) (c .pre .modest) in
     simp (toZ-ofZ, w) (amount-fits (pos (b .width) *ℤ b .price) s)
 
 pub returns : need.returns
@@ -22,6 +22,6 @@ returns c =
     let b = c .args .block in
     let f : SFits w64 (b .price) = search needs in
     let w : toZ w64 (b .width) ≡ pos (b .width) = omega (arith, ints) in
-    let s = product-amount (b .width) (b .price) (c .pre .few) (c .pre .low) (c .pre .high) in
+    let s = product-amount (b .width) (b .price) (c .pre .few) (c .pre .modest) in
     let g : SFits w64 (pos (b .width) *ℤ b .price) = amount-fits (pos (b .width) *ℤ b .price) s in
     simp (toZ-ofZ, w)

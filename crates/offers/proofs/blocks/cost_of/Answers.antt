@@ -9,7 +9,7 @@ use mir.Val.{SFits}
 use Rattle.std.proofs.shelf.Elements.{all-getD}
 use Rattle.std.proofs.shelf.Lists.{at-drop-all, at-drop-more}
 use Rattle.std.proofs.shelf.Signed.{toZ-ofZ, ints}
-use Rattle.offers.specs.Blocks.{Kept}
+use Rattle.offers.specs.Bounds.{Kept}
 use Rattle.offers.proofs.Spreads.{blockAt, spent, spent-all, spent-over, spent-done, spent-more, taken-kept, kept-wide}
 use Rattle.offers.proofs.blocks.cost_of.Needs as need
 
@@ -19,8 +19,7 @@ loop-block-holds c = (spent-all (c .args .tenths) (c .args .blocks .now), (omega
 pub cost-of-all-cost-requires : need.cost-of-all-cost-requires
 cost-of-all-cost-requires c κs =
     let k = taken-kept (c .args .blocks .now) (c .loop-block .block-index) (c .loop-block-test .taken) (c .pre .kept) (c .loop-block .left) (c .taken-of-taken .result) (c .taken-of-taken .ensures) in
-    let wide = kept-wide (c .taken-of-taken .result) k in
-    record { few = k .0; low = wide .0; high = wide .1 }
+    record { few = k .0; modest = kept-wide (c .taken-of-taken .result) k }
 
 pub add-cost : need.add-cost
 add-cost c = spent-more _ (c .args .blocks .now) (c .loop-block .block-index) (c .loop-block-test .taken) (c .pre .few) (c .pre .kept) (c .args .tenths) (c .loop-block .left) (c .taken-of-taken .result) _ (c .cost-of-all-cost .result) (c .taken-of-taken .ensures) (c .cost-of-all-cost .ensures) (c .loop-block .inv .0) (c .loop-block .inv .1) .0

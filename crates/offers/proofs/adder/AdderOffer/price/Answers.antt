@@ -16,7 +16,7 @@ add-price g c =
     let s = c .args .self .now in
     let p = c .in-Continue-price .price in
     let within = price-within (g .C·OfferCurve .prices (s .lower)) (c .args .tenth) p (g .C·OfferCurve·met .lawful (s .lower)) (c .in-Continue-price .ensures tt) in
-    raised-fits (s .added) p within (s .modest .0) (s .modest .1)
+    raised-fits (s .added) p within (s .modest)
 
 pub returns : need.returns
 returns g c =
@@ -24,5 +24,5 @@ returns g c =
     let ps = g .C·OfferCurve .prices (s .lower) in
     let p = c .in-Continue-price .price in
     let within = price-within ps (c .args .tenth) p (g .C·OfferCurve·met .lawful (s .lower)) (c .in-Continue-price .ensures tt) in
-    let is = clamp-back (s .added) p within (s .modest .0) (s .modest .1) (c .clamp .result) (c .clamp .ensures .value) in
+    let is = clamp-back (s .added) p within (s .modest) (c .clamp .result) (c .clamp .ensures .value) in
     price-changed (λ p. clamped (p +ℤ s .added)) ps (c .args .tenth) p _ is (c .in-Continue-price .ensures tt)

@@ -16,4 +16,4 @@ returns g c =
     let ps = g .C·OfferCurve .prices (s .lower) in
     let p = c .in-Continue-price .price in
     let within = price-within ps (c .args .tenth) p (g .C·OfferCurve·met .lawful (s .lower)) (c .in-Continue-price .ensures tt) in
-    price-changed (minZ (s .limit)) ps (c .args .tenth) p _ (min-back (s .limit) p (c .lower-of .result) (s .within) within (c .lower-of .ensures)) (c .in-Continue-price .ensures tt)
+    price-changed (minZ (s .limit)) ps (c .args .tenth) p _ (min-back (s .limit) p (c .at-most .result) (s .within) within (c .at-most .ensures)) (c .in-Continue-price .ensures tt)

@@ -1,0 +1,5 @@
+pub mod Answers
+pub mod Lines
+pub mod Offers
+pub mod Quotes
+pub mod Sentences

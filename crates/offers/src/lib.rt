@@ -1,13 +1,13 @@
 // Offer curves of generating units: what the first tenths of a megawatt cost, and how many tenths run at a price.
 
-pub mod adder;
-pub mod block;
-pub mod block_curve;
-pub mod blocks;
-pub mod capped;
-pub mod curve;
-pub mod priced;
-pub mod refusal;
+mod adder;
+mod block;
+mod block_curve;
+mod blocks;
+mod capped;
+mod curve;
+mod priced;
+mod refusal;
 
 pub use adder::Adder;
 pub use adder::AdderOffer;

@@ -9,9 +9,9 @@ ghost use Rattle.settle.specs.Lines.{blockOf, itemFrom, itemOf, numberOf, only
 use super::fault::FaultFromAlloc;
 use super::fault::LineFault;
 use super::fault::OfferFault;
-use offers::block::Block;
-use offers::block::BlockDebug;
-use offers::block::BlockPartialEq;
+use offers::Block;
+use offers::BlockDebug;
+use offers::BlockPartialEq;
 use std::alloc::AllocError;
 use std::alloc::Global;
 
@@ -101,7 +101,7 @@ fn item_of(words: &[&str]) -> Result<Option<Item>, LineFault>
 }
 
 // The item of a line, or its fault under the line's number.
-pub fn read_line(heap: Global, number: u64, text: &str) -> Result<Option<Item>, OfferFault>
+pub(crate) fn read_line(heap: Global, number: u64, text: &str) -> Result<Option<Item>, OfferFault>
     ensures { λ r. ⌜ Answers (λ x. x) r (atLine number (itemOf (wordsOf (now (text .entry))))) ⌝ }
 {
     let words = words(heap, text)?;

@@ -11,7 +11,7 @@ use super::fault::LineFault;
 use super::fault::OfferFault;
 use super::lines::Item;
 use super::lines::read_line;
-use offers::block::Block;
+use offers::Block;
 use std::alloc::Global;
 
 // What lies on the blocks.
@@ -54,7 +54,7 @@ impl Pile {
 }
 
 impl Offer {
-    pub fn new(heap: Global) -> Offer
+    pub(crate) fn new(heap: Global) -> Offer
         ensures { λ r. ⌜ asked r ≡ nothing ⌝ }
     {
         Offer {
@@ -100,7 +100,7 @@ impl Offer {
 }
 
 // The offer that the lines make, or the first fault.
-pub fn read_offer(heap: Global, lines: &[String]) -> Result<Offer, OfferFault>
+pub(crate) fn read_offer(heap: Global, lines: &[String]) -> Result<Offer, OfferFault>
     ensures { λ r. ⌜ Answers asked r (offerRead 1 nothing (map string-bytes (now (lines .entry)))) ⌝ }
 {
     let mut offer = Offer::new(heap);

@@ -14,13 +14,13 @@ use super::fault::FaultFromRefused;
 use super::fault::OfferFault;
 use super::offer::Offer;
 use super::offer::Pile;
-use offers::adder::Adder;
-use offers::adder::AdderOffer;
-use offers::block_curve::BlockCurve;
-use offers::blocks::BlockOffer;
-use offers::capped::Cap;
-use offers::capped::CapOffer;
-use offers::curve::OfferCurve;
+use offers::Adder;
+use offers::AdderOffer;
+use offers::BlockCurve;
+use offers::BlockOffer;
+use offers::Cap;
+use offers::CapOffer;
+use offers::OfferCurve;
 use std::alloc::Global;
 
 // The price of a tenth, and the cost of all tenths up to it.
@@ -85,7 +85,7 @@ fn dispatches_at<C: OfferCurve>(
 }
 
 // What a curve answers at these tenths and market prices.
-pub fn quote_at<C: OfferCurve>(
+pub(crate) fn quote_at<C: OfferCurve>(
     heap: Global,
     curve: &C,
     tenths: &[u64],
@@ -172,7 +172,7 @@ fn block_ends(heap: Global, curve: &BlockCurve) -> Result<Vec<u64>, OfferFault>
 }
 
 // The prices of an offer at the end of each block and at its market prices, or why it is refused.
-pub fn price_offer(heap: Global, offer: &Offer) -> Result<Quote, OfferFault>
+pub(crate) fn price_offer(heap: Global, offer: &Offer) -> Result<Quote, OfferFault>
     ensures { λ r. ⌜ Answers quoted r (asRefused (settled (asked (now (offer .entry))))) ⌝ }
 {
     let blocks = Vec::from_slice(heap, offer.blocks.as_slice())?;

@@ -9,7 +9,7 @@ use super::fault::OfferFaultPartialEq;
 use super::offer::read_offer;
 use super::pricing::Quote;
 use super::pricing::price_offer;
-use offers::refusal::CurveRefusal;
+use offers::CurveRefusal;
 use std::alloc::Global;
 use std::test::*;
 

@@ -4,10 +4,10 @@ use mathlib.Core.Bool.{Bool, true, false, cond, _&&_}
 use mathlib.Core.List.{List, [], _∷_, _++_}
 use Prim.Native.Nat.{ℕ, zero, suc, _+_, _-_, _*_, _≤_, _<_, min}
 use native.Mathlib.Omega.{arith}
-use lib.Dec.{leb, eqb}
+use lib.Dec.{leb, ltb, eqb}
 use lib.IntN.{ℤ, pos, negsuc, negℤ, _+ℤ_, _*ℤ_, zero-*ℤ}
 use lib.ListN.{length, take, drop, replicate, getD}
-use lib.Signed.{leZ, _≤ℤ_}
+use lib.Signed.{leZ, ltZ, _≤ℤ_}
 use mir.Syntax.{w64}
 use mir.Val.{SFits, toZ, ofZ}
 use Rattle.std.proofs.shelf.Elements.{all-append, all-getD}
@@ -170,9 +170,9 @@ no-fault i before floor b s =
     let w = s .within in
     let r = s .rises in
     let full : eqb (b .width) 0 ≡ false = grind (arith, tells) in
-    let fits : leb (before + b .width) highestTop ≡ true = grind (arith, tells) in
+    let fits : ltb highestTop (before + b .width) ≡ false = grind (arith, tells) in
     let range : inRange (b .price) ≡ true = grind (arith, ints) in
-    let up : leZ floor (b .price) ≡ true = grind (arith, ints) in
+    let up : ltZ (b .price) floor ≡ false = grind (arith, ints) in
     rw (full, fits, range, up)
 
 no-fault-from : (i before : ℕ) (floor : ℤ) (bs : List Block) → All (λ b. 1 ≤ b .width) bs → before + length (spread bs) ≤ highestTop → All InRange (spread bs) → Rises floor (spread bs) → faultFrom i before floor bs ≡ None

@@ -1,11 +1,11 @@
 -- Block curves: the prices that a list of blocks stands for, and which lists are refused.
-use mathlib.Core.Bool.{cond, _&&_}
+use mathlib.Core.Bool.{cond, not, _&&_}
 use mathlib.Core.List.{List, [], _∷_, _++_}
 use Prim.Native.Nat.{ℕ, _+_, _≤_}
-use lib.Dec.{leb, eqb}
+use lib.Dec.{leb, ltb, eqb}
 use lib.IntN.{ℤ}
 use lib.ListN.{length, replicate}
-use lib.Signed.{leZ}
+use lib.Signed.{ltZ}
 use Rattle.std.specs.declared.option.Option.{Option}
 use Rattle.std.specs.declared.option.Option.the-variants.{None, Some}
 use Rattle.std.specs.declared.result.Result.{Result}
@@ -16,6 +16,9 @@ use Rattle.offers.specs.declared.refusal.CurveRefusal.the-variants.{BlockCount
 use Rattle.std.specs.shelf.Lists.{All}
 use Rattle.offers.specs.Prices.{lowestPrice, highestTop, inRange, Lawful}
 
+abbrev pub mostBlocks : ℕ
+mostBlocks = 10
+
 -- Each block has as many tenths as it is wide, all at its price.
 abbrev pub spread : List Block → List ℤ
 spread [] = []
@@ -25,11 +28,9 @@ spread (b ∷ bs) = replicate (b .width) (b .price) ++ spread bs
 abbrev pub blockFault : ℕ → ℕ → ℤ → Block → Option CurveRefusal
 blockFault i before floor b =
     cond (eqb (b .width) 0) (Some (EmptyBlock i))
-    (cond (leb (before + b .width) highestTop)
-    (cond (inRange (b .price))
-    (cond (leZ floor (b .price)) None (Some (PriceFalls i)))
-    (Some (PriceOutOfRange i)))
-    (Some (TooWide i)))
+    (cond (ltb highestTop (before + b .width)) (Some (TooWide i))
+    (cond (not (inRange (b .price))) (Some (PriceOutOfRange i))
+    (cond (ltZ (b .price) floor) (Some (PriceFalls i)) None)))
 
 abbrev pub orElse : Option CurveRefusal → Option CurveRefusal → Option CurveRefusal
 orElse None next = next
@@ -42,7 +43,7 @@ faultFrom i before floor (b ∷ bs) = orElse (blockFault i before floor b) (faul
 
 -- The first fault of an offer. Its first block has no block before it, so that the lowest price is its floor.
 abbrev pub fault : List Block → Option CurveRefusal
-fault bs = cond (leb 1 (length bs) && leb (length bs) 10) (faultFrom 1 0 lowestPrice bs) (Some BlockCount)
+fault bs = cond (leb 1 (length bs) && leb (length bs) mostBlocks) (faultFrom 1 0 lowestPrice bs) (Some BlockCount)
 
 abbrev pub unless : {X : Type 0} → Option CurveRefusal → X → Result X CurveRefusal
 unless None x = Ok x
@@ -55,6 +56,6 @@ blocksAsked bs = unless (fault bs) bs
 -- The blocks of which a curve can be made, said at once: 1 to 10, none empty, with prices that keep the law of a curve.
 pub record Offered (bs : List Block) : Type 0 where
   pub some : 1 ≤ length bs
-  pub few : length bs ≤ 10
+  pub few : length bs ≤ mostBlocks
   pub filled : All (λ b. 1 ≤ b .width) bs
   pub lawful : Lawful (spread bs)

@@ -34,6 +34,7 @@ abbrev pub Rises : ℤ → List ℤ → Type 0
 Rises floor [] = Unit {0}
 Rises floor (p ∷ ps) = (floor ≤ℤ p) × Rises p ps
 
+-- No price is below the one before it.
 abbrev pub Rising : List ℤ → Type 0
 Rising [] = Unit {0}
 Rising (p ∷ ps) = Rises p ps

@@ -54,14 +54,12 @@ pub impl<C: OfferCurve> OfferCurve for Cap<C> as CapOffer {
             return Err(CurveRefusal::NoSuchTenth(tenths));
         }
         let under = self.lower.count(self.limit).min(tenths);
-        let cost = self.lower.cost(under)?;
-        Ok(
-            cost
-                + cost_of_all(Block {
-                    width: tenths - under,
-                    price: self.limit,
-                }),
-        )
+        let below = self.lower.cost(under)?;
+        let level = cost_of_all(Block {
+            width: tenths - under,
+            price: self.limit,
+        });
+        Ok(below + level)
     }
 
     fn count(&self, price: i64) -> u64 {

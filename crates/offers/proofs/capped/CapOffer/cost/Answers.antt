@@ -19,11 +19,11 @@ add-result g c =
     let s = c .args .self .now in
     let ps = g .C·OfferCurve .prices (s .lower) in
     let h : c .args .tenths ≤ length ps = omega arith in
-    capped-fits (s .limit) ps (c .args .tenths) (c .min-under .result) (c .count .result) (c .in-Continue-cost .cost) (c .cost-of-all .result) (s .within) (g .C·OfferCurve·met .lawful (s .lower)) h (c .count .ensures) (c .min-under .ensures) (c .in-Continue-cost .ensures tt) (c .cost-of-all .ensures)
+    capped-fits (s .limit) ps (c .args .tenths) (c .min-under .result) (c .count .result) (c .in-Continue-below .below) (c .cost-of-all-level .result) (s .within) (g .C·OfferCurve·met .lawful (s .lower)) h (c .count .ensures) (c .min-under .ensures) (c .in-Continue-below .ensures tt) (c .cost-of-all-level .ensures)
 
 pub returns : need.returns
 returns g c =
     let s = c .args .self .now in
     let ps = g .C·OfferCurve .prices (s .lower) in
     let h : c .args .tenths ≤ length ps = omega arith in
-    cost-capped (s .limit) ps (c .args .tenths) (c .min-under .result) (c .count .result) (c .in-Continue-cost .cost) (c .cost-of-all .result) (s .within) (g .C·OfferCurve·met .lawful (s .lower)) h (c .count .ensures) (c .min-under .ensures) (c .in-Continue-cost .ensures tt) (c .cost-of-all .ensures)
+    cost-capped (s .limit) ps (c .args .tenths) (c .min-under .result) (c .count .result) (c .in-Continue-below .below) (c .cost-of-all-level .result) (s .within) (g .C·OfferCurve·met .lawful (s .lower)) h (c .count .ensures) (c .min-under .ensures) (c .in-Continue-below .ensures tt) (c .cost-of-all-level .ensures)

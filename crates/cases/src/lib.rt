@@ -17,4 +17,6 @@ mod block_tests;
 #[cfg(test)]
 mod pile_tests;
 #[cfg(test)]
+mod quote_tests;
+#[cfg(test)]
 mod support;

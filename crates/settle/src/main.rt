@@ -1,18 +1,12 @@
 // Settles an energy offer: reads it as text on standard input, prices it, and prints the prices.
 
-mod fault;
-mod lines;
-mod offer;
-mod pricing;
 mod report;
-#[cfg(test)]
-mod tests;
 
-use fault::OfferFaultDebug;
-use fault::OfferFaultDisplay;
-use fault::OfferFaultError;
-use offer::read_offer;
-use pricing::price_offer;
+use quotes::OfferFaultDebug;
+use quotes::OfferFaultDisplay;
+use quotes::OfferFaultError;
+use quotes::price_offer;
+use quotes::read_offer;
 use report::Report;
 use report::ReportDisplay;
 use std::error::AnyError;

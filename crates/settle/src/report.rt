@@ -1,8 +1,8 @@
 // The report of a priced offer.
 
-use super::offer::Offer;
-use super::offer::Pile;
-use super::pricing::Quote;
+use quotes::Offer;
+use quotes::Pile;
+use quotes::Quote;
 use std::fmt;
 
 #[derive(Drop)]

@@ -1,8 +1,0 @@
-use Rattle.settle.proofs.Readings.{width-ok, width-err}
-use Rattle.settle.proofs.lines.width.Needs as need
-
-pub returns-in-Ok : need.returns-in-Ok
-returns-in-Ok c = width-ok (c .args .word .now) (c .in-Ok .width) (c .in-Ok .ensures tt .reads .0)
-
-pub returns-in-Err : need.returns-in-Err
-returns-in-Err c = width-err (c .args .word .now) (c .in-Err .ensures tt .reads .0)

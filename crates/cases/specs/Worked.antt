@@ -3,10 +3,7 @@ use mathlib.Core.Path.{_≡_}
 use mathlib.Core.List.{List, [], _∷_}
 use Prim.Native.Nat.{ℕ}
 use lib.IntN.{ℤ, pos}
-use Rattle.std.specs.declared.result.Result.{Result}
-use Rattle.std.specs.declared.result.Result.the-variants.{Ok, Err}
-use Rattle.offers.specs.declared.block.Block.{Block}
-use Rattle.offers.specs.declared.refusal.CurveRefusal.{CurveRefusal}
+use Rattle.std.specs.declared.result.Result.the-variants.{Ok}
 use Rattle.offers.specs.Prices.{costOf, countOf}
 use Rattle.offers.specs.Blocks.{spread}
 use Rattle.offers.specs.Piles.{capped, raised}

@@ -1,23 +1,21 @@
 -- What caps and adders make of a list of prices that never falls.
-use mathlib.Core.Path.{_≡_, refl, sym, ap, _∙_}
+use mathlib.Core.Path.{_≡_, refl, ap, _∙_}
 use mathlib.Core.Bool.{Bool, true, false, cond, _&&_}
-use mathlib.Core.List.{List, [], _∷_, _++_, map}
+use mathlib.Core.List.{List, [], _∷_, map}
 use Prim.Native.Nat.{ℕ, zero, suc, _+_, _-_, _≤_, _<_, min}
 use native.Mathlib.Omega.{arith}
-use native.Mathlib.Nat.{zero-add}
-use lib.IntN.{ℤ, pos, negsuc, negℤ, _+ℤ_, _-ℤ_, _*ℤ_, zero-*ℤ}
+use lib.IntN.{ℤ, pos, _+ℤ_, _-ℤ_, _*ℤ_, zero-*ℤ}
 use lib.ListN.{length, take, replicate, getD, length-map}
-use lib.Signed.{leZ, ltZ, _≤ℤ_, _<ℤ_}
+use lib.Signed.{leZ, _≤ℤ_, _<ℤ_}
 use Rattle.std.proofs.shelf.Signed.{ints}
-use Rattle.std.proofs.shelf.Lists.{take-map, take-replicate}
-use Rattle.std.proofs.shelf.Elements.{all-map, all-weaker}
+use Rattle.std.proofs.shelf.Lists.{take-replicate}
 use Rattle.std.proofs.shelf.Tests.{and-parts}
 use Rattle.std.specs.Numbers.{minZ, maxZ}
 use Rattle.std.specs.shelf.Lists.{All}
-use Rattle.offers.specs.Prices.{InRange, inRange, lowestPrice, highestPrice, Rises, Rising, Lawful, total, upTo}
+use Rattle.offers.specs.Prices.{InRange, inRange, lowestPrice, highestPrice, Rises, Lawful, total, upTo}
 use Rattle.offers.specs.Piles.{capped, clamped, raised, allKeep}
 use Rattle.offers.proofs.Sums.{times-suc, times-plus, total-replicate}
-use Rattle.offers.proofs.Rising.{rises-from, rises-all, rises-map, lawful-map, rises-rising, upTo-all, upTo-none, upTo-under, upTo-map, upTo-mono}
+use Rattle.offers.proofs.Rising.{rises-map, lawful-map, upTo-all, upTo-none, upTo-under, upTo-map, upTo-mono}
 
 -- ---- caps
 

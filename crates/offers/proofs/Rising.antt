@@ -1,12 +1,12 @@
 -- Lists of prices that never fall.
-use mathlib.Core.Path.{_≡_, refl, sym, ap, _∙_}
+use mathlib.Core.Path.{_≡_, refl, ap}
 use mathlib.Core.Bool.{Bool, true, false, cond}
-use mathlib.Core.List.{List, [], _∷_, _++_, map}
-use Prim.Native.Nat.{ℕ, zero, suc, _+_, _-_, _≤_, _<_}
+use mathlib.Core.List.{List, [], _∷_, map}
+use Prim.Native.Nat.{_+_, _-_, _≤_, _<_}
 use native.Mathlib.Omega.{arith}
-use lib.IntN.{ℤ, pos, negsuc}
-use lib.ListN.{length, replicate, getD, length-map}
-use lib.Signed.{leZ, ltZ, _≤ℤ_, _<ℤ_}
+use lib.IntN.{ℤ}
+use lib.ListN.{length, length-map}
+use lib.Signed.{leZ, _≤ℤ_, _<ℤ_}
 use Rattle.std.proofs.shelf.Signed.{ints}
 use Rattle.std.proofs.shelf.Elements.{all-map, all-weaker}
 use Rattle.std.specs.shelf.Lists.{All}

@@ -5,13 +5,13 @@ use mathlib.Core.List.{List, [], _∷_, _++_}
 use Prim.Native.Nat.{ℕ, zero, suc, _+_, _-_, _*_, _≤_, _<_, min}
 use native.Mathlib.Omega.{arith}
 use lib.Dec.{leb, ltb, eqb}
-use lib.IntN.{ℤ, pos, negsuc, negℤ, _+ℤ_, _*ℤ_, zero-*ℤ}
+use lib.IntN.{ℤ, pos, _+ℤ_, _*ℤ_, zero-*ℤ}
 use lib.ListN.{length, take, drop, replicate, getD}
 use lib.Signed.{leZ, ltZ, _≤ℤ_}
 use mir.Syntax.{w64}
 use mir.Val.{SFits, toZ, ofZ}
 use Rattle.std.proofs.shelf.Elements.{all-append, all-getD}
-use Rattle.std.proofs.shelf.Lists.{length-append, length-replicate, getD-append-left, getD-append-right, getD-replicate, take-replicate, take-append-le, take-all, at-drop-more, drop-all}
+use Rattle.std.proofs.shelf.Lists.{length-append, length-replicate, getD-append-left, getD-append-right, getD-replicate, at-drop-more}
 use Rattle.std.proofs.shelf.Signed.{ints}
 use Rattle.std.proofs.shelf.Ways.{tells}
 use Rattle.std.specs.declared.option.Option.{Option}

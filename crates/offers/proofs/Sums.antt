@@ -1,25 +1,19 @@
 -- Sums and counts over lists of prices.
 use mathlib.Core.Path.{_≡_, refl, sym, ap, _∙_}
 use mathlib.Core.Bool.{Bool, true, false, cond}
-use mathlib.Core.List.{List, [], _∷_, _++_, map}
-use Prim.Native.Nat.{ℕ, zero, suc, _+_, _-_, _*_, _≤_, _<_, min}
+use mathlib.Core.List.{List, [], _∷_, _++_}
+use Prim.Native.Nat.{ℕ, zero, suc, _+_, _-_, _*_, _≤_}
 use native.Mathlib.Omega.{arith}
-use native.Mathlib.Numerals.{add-one}
 use native.Mathlib.Nat.{mul-le-mul, zero-add}
-use lib.IntN.{ℤ, pos, negsuc, negℤ, sucℤ, _+ℤ_, _*ℤ_, zero-*ℤ, sucℤ-*ℤ, +ℤ-idl, +ℤ-assoc}
-use lib.ListN.{length, take, replicate, getD}
-use lib.Signed.{leZ, _≤ℤ_, _<ℤ_}
+use lib.IntN.{ℤ, pos, negsuc, negℤ, sucℤ, _+ℤ_, _*ℤ_, zero-*ℤ, sucℤ-*ℤ}
+use lib.ListN.{length, replicate}
+use lib.Signed.{leZ, _≤ℤ_}
 use mir.Syntax.{w64}
 use mir.Val.{SFits}
 use Rattle.std.proofs.shelf.Signed.{ints}
-use Rattle.std.proofs.shelf.Tests.{cases-bool}
 use Rattle.std.specs.shelf.Lists.{All}
 use Rattle.offers.specs.Prices.{InRange, total, upTo}
 use Rattle.offers.specs.Bounds.{Amount, Difference}
-
-pub total-append : (xs ys : List ℤ) → total (xs ++ ys) ≡ total xs +ℤ total ys
-total-append [] ys = sym (+ℤ-idl (total ys))
-total-append (x ∷ xs) ys = ap (λ z. x +ℤ z) (total-append xs ys) ∙ sym (+ℤ-assoc x (total xs) (total ys))
 
 -- one more of the same number
 pub times-suc : (n : ℕ) (p : ℤ) → pos (suc n) *ℤ p ≡ p +ℤ pos n *ℤ p

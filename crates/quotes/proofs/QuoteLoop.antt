@@ -8,7 +8,6 @@ use lib.ListN.{length, getD, take, drop}
 use Rattle.std.specs.declared.result.Result.{Result}
 use Rattle.std.specs.declared.result.Result.the-variants.{Ok, Err}
 use Rattle.std.proofs.shelf.Lists.{append-assoc, append-nil, at-drop-more, at-drop-all, map-more}
-use Rattle.offers.specs.Prices.{countOf}
 use Rattle.offers.specs.declared.refusal.CurveRefusal.{CurveRefusal}
 use Rattle.quotes.specs.declared.fault.OfferFault.{OfferFault}
 use Rattle.quotes.specs.declared.pricing.Dispatch.{Dispatch}

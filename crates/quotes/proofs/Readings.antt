@@ -1,5 +1,5 @@
 -- Which texts are numbers, as the definitions and as `parse` have it.
-use mathlib.Core.Path.{_≡_, refl, ap, sym, _∙_}
+use mathlib.Core.Path.{_≡_, refl, ap}
 use mathlib.Core.Bool.{Bool, true, false, cond, _&&_}
 use mathlib.Core.List.{List}
 use native.Mathlib.Omega.{arith}
@@ -19,7 +19,7 @@ use Rattle.std.proofs.shelf.Tests.{leb-true, le-leb, and-parts, and-from}
 use Rattle.std.proofs.shelf.Ways.{decides-and, decides-ltb}
 use Rattle.quotes.specs.declared.fault.LineFault.{LineFault}
 use Rattle.quotes.specs.declared.fault.LineFault.the-variants.{NotANumber}
-use Rattle.quotes.specs.Lines.{isNumeral, isShort, numberOf, widthOf, onlyNumber, blockOf}
+use Rattle.quotes.specs.Lines.{isNumeral, isShort, numberOf, widthOf}
 
 own : Numerals (λ ds. allDigits ds ≡ true) (value 10)
 own = numerals-by-value _ tells-allDigits

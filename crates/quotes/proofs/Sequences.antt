@@ -1,5 +1,5 @@
 -- Words in a row: a slice of so many, and the items that they give.
-use mathlib.Core.Path.{_≡_, refl, sym, ap, _∙_}
+use mathlib.Core.Path.{_≡_, refl, ap}
 use mathlib.Core.Bool.{Bool, true, false}
 use mathlib.Core.List.{List, [], _∷_, map}
 use native.Mathlib.Omega.{arith}
@@ -12,11 +12,10 @@ use lib.ListN.{length, getD, take, drop}
 use Rattle.std.specs.Orderings.{Decides}
 use Rattle.std.specs.shelf.Text.{sameBytes}
 use Rattle.std.specs.declared.option.Option.the-variants.{None, Some}
-use Rattle.std.specs.declared.result.Result.{Result}
 use Rattle.std.specs.declared.result.Result.the-variants.{Ok, Err}
 use Rattle.std.proofs.shelf.Equals.{sameBytes-decides}
 use Rattle.std.proofs.shelf.Lists.{take-rest}
-use Rattle.std.proofs.shelf.Tests.{ne-eqb, true≢false}
+use Rattle.std.proofs.shelf.Tests.{ne-eqb}
 use Rattle.std.proofs.shelf.Ways.{not-from-decides}
 use Rattle.quotes.specs.declared.fault.LineFault.{LineFault}
 use Rattle.quotes.specs.declared.fault.LineFault.the-variants.{WordCount, UnknownItem}

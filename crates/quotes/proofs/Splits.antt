@@ -9,7 +9,6 @@ use lib.Dec.{eqb}
 use lib.ListN.{length, getD, take, drop}
 use Rattle.std.specs.Finds.{Parted, FindsChar}
 use Rattle.std.specs.Words.{Without}
-use Rattle.std.specs.declared.option.Option.{Option}
 use Rattle.std.specs.declared.option.Option.the-variants.{None, Some}
 use Rattle.std.proofs.shelf.Lists.{append-nil, take-append-drop, map-push, nil-from-length}
 use Rattle.std.proofs.shelf.Patterns.{without-char, drop-at-char}

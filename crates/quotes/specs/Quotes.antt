@@ -4,7 +4,7 @@ use Prim.Native.Nat.{ℕ, _+_}
 use lib.IntN.{ℤ}
 use Rattle.std.specs.Of.Vec.{vec-items}
 use Rattle.std.specs.declared.result.Result.{Result}
-use Rattle.std.specs.declared.result.Result.the-variants.{Ok, Err}
+use Rattle.std.specs.declared.result.Result.the-variants.{Ok}
 use Rattle.offers.specs.declared.block.Block.{Block}
 use Rattle.offers.specs.declared.refusal.CurveRefusal.{CurveRefusal}
 use Rattle.offers.specs.Blocks.{spread, blocksAsked}

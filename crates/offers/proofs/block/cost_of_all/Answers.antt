@@ -1,11 +1,10 @@
 use mathlib.Core.Path.{_≡_}
 use borrow.Author.Needs.{needs}
 use native.Mathlib.Omega.{arith}
-use lib.IntN.{ℤ, pos, negℤ, _*ℤ_}
-use lib.Signed.{_≤ℤ_}
+use lib.IntN.{ℤ, pos, _*ℤ_}
 use mir.Syntax.{w64}
 use mir.Val.{SFits, toZ}
-use Rattle.std.proofs.shelf.Signed.{ints, toZ-ofZ, toZ-pos}
+use Rattle.std.proofs.shelf.Signed.{ints, toZ-ofZ}
 use Rattle.offers.proofs.Sums.{product-amount, amount-fits}
 use Rattle.offers.proofs.block.cost_of_all.Needs as need
 

@@ -1,16 +1,8 @@
-use borrow.Author.Needs.{needs}
 use native.Mathlib.Omega.{arith}
-use mathlib.Core.Path.{_≡_, refl, sym, ap, _∙_}
-use mathlib.Core.List.{[]}
-use Prim.Native.Nat.{_+_}
 use lib.ListN.{drop}
-use mir.Syntax.{w64}
-use mir.Val.{SFits}
-use Rattle.std.proofs.shelf.Elements.{all-getD}
-use Rattle.std.proofs.shelf.Lists.{at-drop-all, at-drop-more}
-use Rattle.std.proofs.shelf.Signed.{toZ-ofZ, ints}
-use Rattle.offers.specs.Bounds.{Kept}
-use Rattle.offers.proofs.Spreads.{blockAt, spent, spent-all, spent-over, spent-done, spent-more, taken-kept, kept-wide}
+use Rattle.std.proofs.shelf.Lists.{at-drop-all}
+use Rattle.std.proofs.shelf.Signed.{ints}
+use Rattle.offers.proofs.Spreads.{spent, spent-all, spent-over, spent-done, spent-more, taken-kept, kept-wide}
 use Rattle.offers.proofs.blocks.cost_of.Needs as need
 
 pub loop-block-holds : need.loop-block-holds

@@ -1,5 +1,5 @@
 use native.Mathlib.Omega.{arith}
-use mathlib.Core.Path.{_≡_, ap, _∙_}
+use mathlib.Core.Path.{_≡_, ap}
 use mir.Syntax.{w64}
 use mir.Val.{toZ, ofZ}
 use Rattle.std.proofs.shelf.Lists.{at-drop-all}

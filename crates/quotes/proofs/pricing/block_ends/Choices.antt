@@ -1,6 +1,5 @@
 use mathlib.Core.List.{_++_}
 use mathlib.Core.Path.{_≡_}
-use mathlib.Core.Bool.{false}
 use Prim.Native.Nat.{_≤_, _+_}
 use lib.ListN.{drop}
 use Rattle.std.specs.Of.Vec.{vec-items}

@@ -1,7 +1,6 @@
-use mathlib.Core.Path.{_≡_, sym, ap, _∙_}
+use mathlib.Core.Path.{sym, ap, _∙_}
 use native.Mathlib.Omega.{arith}
-use lib.IntN.{_-ℤ_}
-use Rattle.std.proofs.shelf.Signed.{ints, toZ-ofZ}
+use Rattle.std.proofs.shelf.Signed.{ints}
 use Rattle.offers.specs.Prices.{upTo}
 use Rattle.offers.proofs.Piles.{count-raised-under, count-raised-over, count-raised}
 use Rattle.offers.proofs.adder.AdderOffer.count.Needs as need

@@ -1,4 +1,3 @@
-use mathlib.Core.Path.{_≡_}
 use lib.IntN.{_+ℤ_}
 use Rattle.std.proofs.shelf.Results.{err-from-errBy}
 use Rattle.offers.specs.Piles.{clamped}

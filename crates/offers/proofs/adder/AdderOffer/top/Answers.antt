@@ -1,4 +1,4 @@
-use mathlib.Core.Path.{_≡_, sym, _∙_}
+use mathlib.Core.Path.{sym, _∙_}
 use lib.IntN.{_+ℤ_}
 use lib.ListN.{length-map}
 use Rattle.offers.specs.Piles.{clamped}

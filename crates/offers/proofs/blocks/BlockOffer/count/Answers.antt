@@ -1,8 +1,5 @@
-use native.Mathlib.Omega.{arith}
-use mathlib.Core.Path.{ap}
 use Rattle.std.specs.Of.Vec.{vec-items}
 use Rattle.offers.specs.Blocks.{spread}
-use lib.ListN.{length}
 use Rattle.offers.proofs.Spreads.{lawful-spread}
 use Rattle.offers.proofs.blocks.BlockOffer.count.Needs as need
 

@@ -1,4 +1,3 @@
-use mathlib.Core.Path.{_≡_}
 use Rattle.std.proofs.shelf.Results.{err-from-errBy}
 use Rattle.std.specs.Numbers.{minZ}
 use Rattle.offers.proofs.Questions.{price-refused, price-changed, price-within, min-back}

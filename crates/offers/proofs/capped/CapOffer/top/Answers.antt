@@ -1,4 +1,4 @@
-use mathlib.Core.Path.{_≡_, sym, _∙_}
+use mathlib.Core.Path.{sym, _∙_}
 use lib.ListN.{length-map}
 use Rattle.std.specs.Numbers.{minZ}
 use Rattle.offers.proofs.capped.CapOffer.top.Needs as need

@@ -1,22 +1,18 @@
 // Offers as text, executed: what is wrong with them, and what lies over what.
 
 use offers::CurveRefusal;
-use quotes::{LineFault, OfferFault, Quote, Unit, price_offer, read_unit};
+use quotes::{LineFault, OfferFault, Quote, price_offer, read_offer};
 use std::alloc::Global;
 use std::process::Abort;
 use std::test::Fail;
 
-pub(crate) fn unit_of(heap: Global, text: &str) -> Result<Unit, OfferFault> {
+fn quote_of(heap: Global, text: &str) -> Result<Quote, OfferFault> {
     let mut lines = Vec::new(heap);
     for line in text.lines() {
         lines.push(String::from_str(heap, line)?)?;
     }
-    read_unit(heap, lines.as_slice())
-}
-
-fn quote_of(heap: Global, text: &str) -> Result<Quote, OfferFault> {
-    let unit = unit_of(heap, text)?;
-    price_offer(heap, &unit.committed)
+    let offer = read_offer(heap, lines.as_slice())?;
+    price_offer(heap, &offer)
 }
 
 fn faulty(rt: &impl Abort, heap: Global, text: &str, fault: OfferFault) -> Result<(), Fail> {

@@ -1,5 +1,7 @@
 // Market processes: what one market step of a generating unit costs and earns.
 
+#![tactic(auto)]
+
 mod amounts;
 mod asking;
 mod day_ahead;

@@ -1,10 +1,9 @@
 -- Block curves: the prices that a list of blocks stands for, and which lists are refused.
-use Rattle.std.specs.Prelude.{ℕ, ◌+◌, ◌≤◌, cond, not, ◌&&◌, List, [], ◌∷◌, ◌++◌, length, replicate, ℤ, Some, None, Option, Result, ◌==◌, int_lt, nat_le, nat_lt}
+use Rattle.std.specs.Prelude.{ℕ, ◌+◌, ◌≤◌, cond, not, ◌&&◌, List, [], ◌∷◌, ◌++◌, length, replicate, ℤ, Some, None, Ok, Err, Option, Result, ◌==◌, int_lt, nat_le, nat_lt}
 use Rattle.offers.specs.declared.block.Block.{Block}
 use Rattle.offers.specs.declared.refusal.CurveRefusal.{CurveRefusal}
 use Rattle.offers.specs.declared.refusal.CurveRefusal.TheVariants.{BlockCount, EmptyBlock, TooWide, PriceOutOfRange, PriceFalls}
 use Rattle.std.specs.List.{AllByRecursion}
-use Rattle.offers.specs.Answers.{or_else, unless}
 use Rattle.offers.specs.Prices.{lowest_price, highest_top, in_range, Lawful}
 
 abbrev pub most_blocks : ℕ
@@ -23,6 +22,10 @@ block_fault i before floor b =
     (cond (not (in_range b.price)) (Some (PriceOutOfRange i))
     (cond (int_lt b.price floor) (Some (PriceFalls i)) None)))
 
+abbrev pub or_else : Option CurveRefusal → Option CurveRefusal → Option CurveRefusal
+or_else None next = next
+or_else (Some fault) next = Some fault
+
 -- The first fault of the blocks from number i on, block by block.
 abbrev pub fault_from : ℕ → ℕ → ℤ → List Block → Option CurveRefusal
 fault_from i before floor [] = None
@@ -31,6 +34,10 @@ fault_from i before floor (b ∷ bs) = or_else (block_fault i before floor b) (f
 -- The first fault of an offer. Its first block has no block before it, so that the lowest price is its floor.
 abbrev pub fault : List Block → Option CurveRefusal
 fault bs = cond (nat_le 1 (length bs) && nat_le (length bs) most_blocks) (fault_from 1 0 lowest_price bs) (Some BlockCount)
+
+abbrev pub unless : {X : Type 0} → Option CurveRefusal → X → Result X CurveRefusal
+unless None x = Ok x
+unless (Some refusal) x = Err refusal
 
 -- The blocks that a curve is asked to hold, or its refusal.
 abbrev pub blocks_asked : List Block → Result (List Block) CurveRefusal

@@ -1,5 +1,5 @@
-pub mod Answers
 pub mod Prices
+pub mod Answers
 pub mod Refusals
 pub mod Blocks
 pub mod Piles

@@ -13,8 +13,7 @@ use Rattle.offers.specs.declared.refusal.CurveRefusal.{CurveRefusal}
 use Rattle.offers.specs.declared.refusal.CurveRefusal.TheVariants.{NoSuchTenth}
 use Rattle.offers.specs.Prices.{InRange, in_range, lowest_price, highest_top, Rises, Lawful, total, up_to, price_of, cost_of}
 use Rattle.offers.specs.Bounds.{Amount, Difference, Kept}
-use Rattle.offers.specs.Answers.{or_else, unless}
-use Rattle.offers.specs.Blocks.{spread, block_fault, fault_from, fault, blocks_asked, Offered}
+use Rattle.offers.specs.Blocks.{spread, block_fault, or_else, fault_from, fault, unless, blocks_asked, Offered}
 use Rattle.offers.specs.Rising.{rises-from, rising-rises, rises-rising}
 use Rattle.offers.specs.Sums.{Near, near_fits, product-amount, times-suc, up_to-append, up_to-replicate}
 

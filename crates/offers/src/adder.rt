@@ -1,8 +1,7 @@
 // An adder over a lower curve.
 
 ghost use Rattle.std.specs.Prelude.{◌≡◌, ◌-◌, ◌≤◌, ◌+ℤ◌, ◌-ℤ◌};
-ghost use Rattle.offers.specs.Prices.{lowest_price, highest_price, in_range};
-ghost use Rattle.offers.specs.Answers.{then};
+ghost use Rattle.offers.specs.Prices.{lowest_price, highest_price, in_range, meant};
 ghost use Rattle.offers.specs.Bounds.{Amount, Difference};
 ghost use Rattle.offers.specs.Piles.{raised, adder_asked};
 ghost use Rattle.offers.specs.PilesLemmas.{lawful-raised};
@@ -31,7 +30,7 @@ fn keeps(price: i64, added: i64) -> bool
 impl<C: OfferCurve + Drop> Adder<C> {
     // An adder over a curve, refused where it would take a price out of range.
     pub fn new(lower: C, added: i64) -> Result<Adder<C>, CurveRefusal>
-        ensures { then result (λ c. raised c.added (prices c.lower)) ≡ adder_asked added (prices lower) }
+        ensures { meant (λ c. raised c.added (C.prices c.lower)) result ≡ adder_asked added (C.prices lower) }
     {
         let first = lower.price(1)?;
         let last = lower.price(lower.top())?;

@@ -2,9 +2,8 @@
 
 ghost use Rattle.std.specs.Prelude.{◌≡◌, ◌≤◌, min, length, is_ok, if◌then◌else◌, Decides, int_le, nat_le};
 ghost use Rattle.std.specs.List.{AllByRecursion};
-ghost use Rattle.offers.specs.Prices.{highest_top, top_of, price_of, cost_of, count_of};
-ghost use Rattle.offers.specs.Blocks.{spread, fault, block_fault, blocks_asked, Offered};
-ghost use Rattle.offers.specs.Answers.{unless, then};
+ghost use Rattle.offers.specs.Prices.{highest_top, meant, top_of, price_of, cost_of, count_of};
+ghost use Rattle.offers.specs.Blocks.{spread, fault, block_fault, unless, blocks_asked, Offered};
 ghost use Rattle.offers.specs.Bounds.{Kept};
 ghost use Rattle.offers.specs.Spreads.{lawful-spread};
 
@@ -129,7 +128,7 @@ impl BlockCurve {
     // A curve of these blocks, or their first fault: their number, then block by block an empty one, widths past the
     // highest top, a price out of range, and a price below the block before.
     pub fn new(blocks: Vec<Block>) -> Result<BlockCurve, CurveRefusal>
-        ensures made { then result (λ c. c.blocks.items) ≡ blocks_asked blocks.items }
+        ensures made { meant (λ c. c.blocks.items) result ≡ blocks_asked blocks.items }
         ensures taken { Decides (is_ok result) (Offered blocks.items) }
     {
         let top = checked_top(blocks.as_slice())?;

@@ -2,8 +2,7 @@
 
 ghost use Rattle.std.specs.Prelude.{◌≡◌};
 ghost use Rattle.std.specs.Int.{int_min};
-ghost use Rattle.offers.specs.Prices.{InRange};
-ghost use Rattle.offers.specs.Answers.{then};
+ghost use Rattle.offers.specs.Prices.{InRange, meant};
 ghost use Rattle.offers.specs.Piles.{capped, cap_asked};
 ghost use Rattle.offers.specs.PilesLemmas.{lawful-capped};
 
@@ -28,7 +27,7 @@ fn at_most(price: i64, limit: i64) -> i64
 impl<C: OfferCurve + Drop> Cap<C> {
     // A cap over a curve, refused where its limit is no price.
     pub fn new(lower: C, limit: i64) -> Result<Cap<C>, CurveRefusal>
-        ensures { then result (λ c. capped c.limit (prices c.lower)) ≡ cap_asked limit (prices lower) }
+        ensures { meant (λ c. capped c.limit (C.prices c.lower)) result ≡ cap_asked limit (C.prices lower) }
     {
         if limit < LOWEST_PRICE || limit > HIGHEST_PRICE {
             return Err(CurveRefusal::CapOutOfRange);

@@ -1,5 +1,7 @@
 // Offer curves of generating units: what the first tenths of a megawatt cost, and how many tenths run at a price.
 
+#![tactic(auto)]
+
 mod adder;
 mod block;
 mod block_curve;

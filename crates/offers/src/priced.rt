@@ -1,8 +1,7 @@
 // A curve made and asked at once: the list that a make promises is the list that the made curve answers by.
 
 ghost use Rattle.std.specs.Prelude.{◌≡◌};
-ghost use Rattle.offers.specs.Prices.{price_of};
-ghost use Rattle.offers.specs.Answers.{bind};
+ghost use Rattle.offers.specs.Prices.{price_of, answered};
 ghost use Rattle.offers.specs.Blocks.{spread, blocks_asked};
 ghost use Rattle.offers.specs.Piles.{cap_asked, adder_asked};
 
@@ -15,7 +14,7 @@ use super::refusal::CurveRefusal;
 
 // The price of a tenth of a curve of these blocks.
 pub fn price_of_blocks(blocks: Vec<Block>, tenth: u64) -> Result<i64, CurveRefusal>
-    ensures { result ≡ bind (blocks_asked blocks.items) (λ bs. price_of (spread bs) tenth) }
+    ensures { result ≡ answered (λ bs. price_of (spread bs) tenth) (blocks_asked blocks.items) }
 {
     BlockCurve::new(blocks)?.price(tenth)
 }
@@ -26,7 +25,7 @@ pub fn price_under_cap<C: OfferCurve + Drop>(
     limit: i64,
     tenth: u64,
 ) -> Result<i64, CurveRefusal>
-    ensures { result ≡ bind (cap_asked limit (prices lower)) (λ ps. price_of ps tenth) }
+    ensures { result ≡ answered (λ ps. price_of ps tenth) (cap_asked limit (C.prices lower)) }
 {
     Cap::new(lower, limit)?.price(tenth)
 }
@@ -37,7 +36,7 @@ pub fn price_under_adder<C: OfferCurve + Drop>(
     added: i64,
     tenth: u64,
 ) -> Result<i64, CurveRefusal>
-    ensures { result ≡ bind (adder_asked added (prices lower)) (λ ps. price_of ps tenth) }
+    ensures { result ≡ answered (λ ps. price_of ps tenth) (adder_asked added (C.prices lower)) }
 {
     Adder::new(lower, added)?.price(tenth)
 }

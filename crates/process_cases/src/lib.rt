@@ -1,5 +1,7 @@
 // The market processes, executed: both markets, and a third party's process that the interface takes alike.
 
+#![tactic(auto)]
+
 mod metered;
 mod net;
 

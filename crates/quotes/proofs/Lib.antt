@@ -1,4 +1,3 @@
-pub mod EachLoop
 pub mod Ends
 pub mod Faulting
 pub mod QuoteLoop

@@ -1,32 +1,17 @@
 -- Words in a row: a slice of so many, and the items that they give.
-use Rattle.std.proofs.Common.{◌≡◌, ℕ, ◌-◌, ◌<◌, Bool, true, false, List, [], ◌∷◌, map, length, get_or, take, drop, ℤ, Some, None, Ok, Err, codes, Decides, Result, sym, refl, arith, Bor, eq-eqb}
-use lib.ListN.{length-map}
+use Rattle.std.proofs.Common.{◌≡◌, ℕ, ◌-◌, ◌<◌, Bool, true, false, eqb, List, [], ◌∷◌, map, length, get_or, take, drop, ℤ, Some, None, Ok, Err, codes, Decides, refl, ap, arith, Bor}
 use Rattle.std.specs.Str.{bytes_eq}
 use Rattle.std.proofs.lemmas.Slice.Eq.{bytes_eq-Decides}
 use Rattle.std.proofs.lemmas.List.{take_rest}
 use Rattle.std.proofs.lemmas.Bool.{ne_eqb}
 use Rattle.std.proofs.lemmas.Bool.Decides.{not_from_Decides}
-use Rattle.quotes.proofs.EachLoop.{each_map}
 use Rattle.quotes.specs.declared.fault.LineFault.{LineFault}
 use Rattle.quotes.specs.declared.fault.LineFault.TheVariants.{WordCount, UnknownItem}
-use Rattle.quotes.specs.declared.lines.Item.TheVariants.{Current}
-use Rattle.offers.specs.Answers.{then}
-use Rattle.quotes.specs.Answers.{each}
-use Rattle.quotes.specs.Lines.{block_of, current_of, item_from, item_of}
-use Rattle.quotes.specs.Numbers.{number_of, numbers_of, width_of, only_number}
+use Rattle.quotes.specs.Answers.{then}
+use Rattle.quotes.specs.Lines.{number_of, width_of, only_number, block_of, item_from, item_of}
 
 abbrev pub texts : List (Bor (List ℕ)) → List (List ℕ)
 texts ws = map (λ x. x.now) ws
-
--- The number that a word is.
-abbrev pub read : Bor (List ℕ) → Result ℤ LineFault
-read w = number_of w.now
-
-pub other-count : (count : ℕ) (ws : List (Bor (List ℕ))) → (length ws ≡ count → ⊥) → Err WordCount ≡ numbers_of count (texts ws)
-other-count count ws h = rw (length-map ws (λ (x : Bor (List ℕ)). x.now), ne_eqb (length ws) count h) refl
-
-pub counted : (count : ℕ) (ws : List (Bor (List ℕ))) → length ws ≡ count → each read ws ≡ numbers_of count (texts ws)
-counted count ws h = rw (length-map ws (λ (x : Bor (List ℕ)). x.now), eq-eqb (length ws) count h) (sym (each_map number_of (λ (x : Bor (List ℕ)). x.now) ws))
 
 pub only_one : (ws : List (Bor (List ℕ))) (d : Bor (List ℕ)) → length ws ≡ 1 → number_of (get_or ws 0 d).now ≡ only_number (texts ws)
 only_one [] d e = absurd (omega arith)
@@ -62,14 +47,6 @@ two-numbers (w ∷ []) d n p e h k = absurd (omega arith)
 two-numbers (w ∷ v ∷ []) d n p e h k = rw (← h, ← k) refl
 two-numbers (w ∷ v ∷ u ∷ ws) d n p e h k = absurd (omega arith)
 
-pub alone : (ws : List (Bor (List ℕ))) → length ws ≡ 0 → Ok Current ≡ current_of (texts ws)
-alone [] e = refl
-alone (w ∷ ws) e = absurd (omega arith)
-
-pub not-alone : (ws : List (Bor (List ℕ))) → (length ws ≡ 0 → ⊥) → Err WordCount ≡ current_of (texts ws)
-not-alone [] h = absurd (h refl)
-not-alone (w ∷ ws) h = refl
-
 differ : (t : Bool) (P : Type 0) → Decides t P → (P → ⊥) → t ≡ false
 differ true P d apart = absurd (apart (d.0 refl))
 differ false P d apart = refl
@@ -78,17 +55,8 @@ differs : (xs ys : List ℕ) → (xs ≡ ys → ⊥) → bytes_eq xs ys ≡ fals
 differs xs ys apart = differ (bytes_eq xs ys) (xs ≡ ys) (bytes_eq-Decides xs ys) apart
 
 pub unknown : (kind : List ℕ) (words : List (List ℕ)) → (kind ≡ codes "block" → ⊥) → (kind ≡ codes "adder" → ⊥) → (kind ≡ codes "cap" → ⊥) → (kind ≡ codes "market" → ⊥)
-    → (kind ≡ codes "current" → ⊥) → (kind ≡ codes "day-ahead" → ⊥) → (kind ≡ codes "ruc" → ⊥) → Err UnknownItem ≡ item_from kind words
-unknown kind words b a l m c d u =
-    rw (
-      differs kind (codes "block") b,
-      differs kind (codes "adder") a,
-      differs kind (codes "cap") l,
-      differs kind (codes "market") m,
-      differs kind (codes "current") c,
-      differs kind (codes "day-ahead") d,
-      differs kind (codes "ruc") u,
-    ) refl
+    → Err UnknownItem ≡ item_from kind words
+unknown kind words b a l m = rw (differs kind (codes "block") b, differs kind (codes "adder") a, differs kind (codes "cap") l, differs kind (codes "market") m) refl
 
 pub blank : (ws : List (Bor (List ℕ))) → (0 < length ws → ⊥) → Ok None ≡ item_of (texts ws)
 blank [] h = refl

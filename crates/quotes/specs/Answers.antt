@@ -1,15 +1,18 @@
 -- What a function that may fail answers: what its definition gives, unless memory runs out.
-use Rattle.std.specs.Prelude.{◌≡◌, ℕ, List, [], ◌∷◌, Ok, Err, Result}
-use Rattle.offers.specs.Answers.{bind, then}
+use Rattle.std.specs.Prelude.{◌≡◌, ℕ, Ok, Err, Result}
 use Rattle.offers.specs.declared.refusal.CurveRefusal.{CurveRefusal}
 use Rattle.quotes.specs.declared.fault.LineFault.{LineFault}
 use Rattle.quotes.specs.declared.fault.OfferFault.{OfferFault}
 use Rattle.quotes.specs.declared.fault.OfferFault.TheVariants.{Line, Refused, Memory}
 
--- The answer to each of a list, or the first refusal.
-abbrev pub each : {X Y E : Type 0} → (X → Result Y E) → List X → Result (List Y) E
-each f [] = Ok []
-each f (x ∷ xs) = bind (f x) (λ y. then (each f xs) (λ more. y ∷ more))
+-- One step after another: the first fault is the fault of both.
+abbrev pub bind : {X Y E : Type 0} → Result X E → (X → Result Y E) → Result Y E
+bind (Ok x) next = next x
+bind (Err e) next = Err e
+
+abbrev pub then : {X Y E : Type 0} → Result X E → (X → Y) → Result Y E
+then (Ok x) f = Ok (f x)
+then (Err e) f = Err e
 
 -- A fault of a line carries the line's number.
 abbrev pub at_line : {X : Type 0} → ℕ → Result X LineFault → Result X OfferFault

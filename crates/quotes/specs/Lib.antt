@@ -1,8 +1,5 @@
 pub mod Answers
 pub mod Lines
-pub mod Numbers
 pub mod Offers
 pub mod Quotes
-pub mod Records
 pub mod Sentences
-pub mod Units

@@ -1,15 +1,13 @@
 -- The words of a line, and the item that they give.
-use Rattle.std.specs.Prelude.{ℕ, cond, List, [], ◌∷◌, ◌++◌, ℤ, Some, None, Ok, Err, codes, Option, Result, ◌==◌, slice_index}
-use Rattle.std.specs.Str.{bytes_eq}
+use Rattle.std.specs.Prelude.{ℕ, ◌^◌, Bool, cond, ◌&&◌, List, [], ◌∷◌, ◌++◌, length, ℤ, pos, negsuc, Some, None, Ok, Err, codes, Option, Result, ◌==◌, int_le, nat_lt, slice_index}
+use Rattle.std.specs.Str.Parse.{digits_value, without_leading_plus, without_leading_sign, signed_digits_value}
+use Rattle.std.specs.Str.{all_ascii_digits, bytes_eq}
 use Rattle.offers.specs.declared.block.Block.{Block}
-use Rattle.offers.specs.Answers.{bind, then}
 use Rattle.quotes.specs.declared.fault.LineFault.{LineFault}
-use Rattle.quotes.specs.declared.fault.LineFault.TheVariants.{UnknownItem, WordCount}
+use Rattle.quotes.specs.declared.fault.LineFault.TheVariants.{UnknownItem, WordCount, NotANumber}
 use Rattle.quotes.specs.declared.lines.Item.{Item}
-use Rattle.quotes.specs.declared.lines.Item.TheVariants.{Part as PartItem, Current as CurrentItem, DayAhead as DayAheadItem, Ruc as RucItem}
-use Rattle.quotes.specs.declared.lines.Part.TheVariants.{Block as BlockPart, Adder as AdderPart, Cap as CapPart, Market as MarketPart}
-use Rattle.quotes.specs.Numbers.{number_of, only_number, width_of}
-use Rattle.quotes.specs.Records.{day_ahead_of, ruc_of}
+use Rattle.quotes.specs.declared.lines.Item.TheVariants.{Block as BlockItem, Adder as AdderItem, Cap as CapItem, Market as MarketItem}
+use Rattle.quotes.specs.Answers.{bind, then}
 
 -- A word that has no byte is none.
 abbrev pub ended : List ℕ → List (List ℕ) → List (List ℕ)
@@ -25,40 +23,40 @@ words_after word (c ∷ cs) = cond (c == 32) (ended word (words_after [] cs)) (w
 abbrev pub words_of : List ℕ → List (List ℕ)
 words_of bs = words_after [] bs
 
+abbrev pub is_numeral : List ℕ → Bool
+is_numeral ds = nat_lt 0 (length ds) && all_ascii_digits ds
+
+-- Whether a number is an i64.
+abbrev pub is_short : ℤ → Bool
+is_short n = int_le (negsuc 9223372036854775807) n && int_le n (pos 9223372036854775807)
+
+-- A number is its digits, after a sign or none.
+abbrev pub number_of : List ℕ → Result ℤ LineFault
+number_of word = cond (is_numeral (without_leading_sign word) && is_short (signed_digits_value 10 word)) (Ok (signed_digits_value 10 word)) (Err NotANumber)
+
+-- A width has no minus, and is a u64.
+abbrev pub width_of : List ℕ → Result ℕ LineFault
+width_of word = cond (is_numeral (without_leading_plus word) && nat_lt (digits_value 10 (without_leading_plus word)) (2 ^ 64)) (Ok (digits_value 10 (without_leading_plus word))) (Err NotANumber)
+
+abbrev pub only_number : List (List ℕ) → Result ℤ LineFault
+only_number [] = Err WordCount
+only_number (word ∷ []) = number_of word
+only_number (word ∷ more ∷ rest) = Err WordCount
+
 abbrev pub block_of : List (List ℕ) → Result Block LineFault
 block_of [] = Err WordCount
 block_of (tenths ∷ []) = Err WordCount
 block_of (tenths ∷ price ∷ []) = bind (width_of tenths) (λ w. then (number_of price) (λ p. record { width = w; price = p }))
 block_of (tenths ∷ price ∷ more ∷ rest) = Err WordCount
 
--- The word alone starts the current offer.
-abbrev pub current_of : List (List ℕ) → Result Item LineFault
-current_of [] = Ok CurrentItem
-current_of (word ∷ rest) = Err WordCount
-
-abbrev block_item : Block → Item
-block_item b = PartItem (BlockPart b)
-
-abbrev adder_item : ℤ → Item
-adder_item n = PartItem (AdderPart n)
-
-abbrev cap_item : ℤ → Item
-cap_item n = PartItem (CapPart n)
-
-abbrev market_item : ℤ → Item
-market_item n = PartItem (MarketPart n)
-
 -- The item that a line's first word names, of the words after it.
 abbrev pub item_from : List ℕ → List (List ℕ) → Result Item LineFault
 item_from kind words =
-    cond (bytes_eq kind (codes "block")) (then (block_of words) block_item)
-    (cond (bytes_eq kind (codes "adder")) (then (only_number words) adder_item)
-    (cond (bytes_eq kind (codes "cap")) (then (only_number words) cap_item)
-    (cond (bytes_eq kind (codes "market")) (then (only_number words) market_item)
-    (cond (bytes_eq kind (codes "current")) (current_of words)
-    (cond (bytes_eq kind (codes "day-ahead")) (then (day_ahead_of words) DayAheadItem)
-    (cond (bytes_eq kind (codes "ruc")) (then (ruc_of words) RucItem)
-    (Err UnknownItem)))))))
+    cond (bytes_eq kind (codes "block")) (then (block_of words) BlockItem)
+    (cond (bytes_eq kind (codes "adder")) (then (only_number words) AdderItem)
+    (cond (bytes_eq kind (codes "cap")) (then (only_number words) CapItem)
+    (cond (bytes_eq kind (codes "market")) (then (only_number words) MarketItem)
+    (Err UnknownItem))))
 
 -- The item that a line's words give. A blank line and a comment, which begins with #, give none.
 abbrev pub item_of : List (List ℕ) → Result (Option Item) LineFault

@@ -1,14 +1,16 @@
--- What an offer asks for, item by item.
-use Rattle.std.specs.Prelude.{List, [], ◌∷◌, ◌++◌, ℤ, Ok, Err, vec_items, Result}
+-- What an offer asks for, line by line.
+use Rattle.std.specs.Prelude.{ℕ, ◌+◌, List, [], ◌∷◌, ◌++◌, ℤ, Some, None, Ok, Err, vec_items, Option, Result}
 use Rattle.offers.specs.declared.block.Block.{Block}
-use Rattle.offers.specs.Answers.{then}
 use Rattle.quotes.specs.declared.fault.LineFault.{LineFault}
 use Rattle.quotes.specs.declared.fault.LineFault.TheVariants.{SecondAdder, SecondCap}
-use Rattle.quotes.specs.declared.lines.Part.{Part}
-use Rattle.quotes.specs.declared.lines.Part.TheVariants.{Block as BlockPart, Adder as AdderPart, Cap as CapPart, Market as MarketPart}
+use Rattle.quotes.specs.declared.fault.OfferFault.{OfferFault}
+use Rattle.quotes.specs.declared.lines.Item.{Item}
+use Rattle.quotes.specs.declared.lines.Item.TheVariants.{Block as BlockItem, Adder as AdderItem, Cap as CapItem, Market as MarketItem}
 use Rattle.quotes.specs.declared.offer.Offer.{Offer}
 use Rattle.quotes.specs.declared.offer.Pile.{Pile}
 use Rattle.quotes.specs.declared.offer.Pile.TheVariants.{Bare, Cap, Adder, CapOverAdder, AdderOverCap}
+use Rattle.quotes.specs.Answers.{bind, then, at_line}
+use Rattle.quotes.specs.Lines.{item_of, words_of}
 
 -- The blocks, what lies on them, and the market prices that are asked about.
 pub record Asked : Type 0 where
@@ -42,8 +44,21 @@ abbrev pub laid : Asked → Pile → Asked
 laid a p = record { blocks = a.blocks; pile = p; markets = a.markets }
 
 -- What an item does to an offer.
-abbrev pub taking : Part → Asked → Result Asked LineFault
-taking (BlockPart b) a = Ok (record { blocks = a.blocks ++ b ∷ []; pile = a.pile; markets = a.markets })
-taking (AdderPart added) a = then (adder_laid added a.pile) (laid a)
-taking (CapPart limit) a = then (cap_laid limit a.pile) (laid a)
-taking (MarketPart price) a = Ok (record { blocks = a.blocks; pile = a.pile; markets = a.markets ++ price ∷ [] })
+abbrev pub taking : Item → Asked → Result Asked LineFault
+taking (BlockItem b) a = Ok (record { blocks = a.blocks ++ b ∷ []; pile = a.pile; markets = a.markets })
+taking (AdderItem added) a = then (adder_laid added a.pile) (laid a)
+taking (CapItem limit) a = then (cap_laid limit a.pile) (laid a)
+taking (MarketItem price) a = Ok (record { blocks = a.blocks; pile = a.pile; markets = a.markets ++ price ∷ [] })
+
+abbrev pub taking_any : Option Item → Asked → Result Asked LineFault
+taking_any None a = Ok a
+taking_any (Some item) a = taking item a
+
+-- What a line does to an offer.
+abbrev pub line_taken : Asked → List ℕ → Result Asked LineFault
+line_taken a bs = bind (item_of (words_of bs)) (λ item. taking_any item a)
+
+-- What lines from this number on make of an offer, or the first fault.
+abbrev pub offer_read : ℕ → Asked → List (List ℕ) → Result Asked OfferFault
+offer_read number a [] = Ok a
+offer_read number a (bs ∷ rest) = bind (at_line number (line_taken a bs)) (λ b. offer_read (number + 1) b rest)

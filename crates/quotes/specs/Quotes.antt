@@ -10,8 +10,7 @@ use Rattle.quotes.specs.declared.offer.Pile.TheVariants.{Bare, Cap, Adder, CapOv
 use Rattle.quotes.specs.declared.pricing.Point.{Point}
 use Rattle.quotes.specs.declared.pricing.Dispatch.{Dispatch}
 use Rattle.quotes.specs.declared.pricing.Quote.{Quote}
-use Rattle.offers.specs.Answers.{bind, then}
-use Rattle.quotes.specs.Answers.{each}
+use Rattle.quotes.specs.Answers.{bind, then}
 use Rattle.quotes.specs.Offers.{Asked}
 
 -- The price of a tenth and the cost of all tenths up to it.
@@ -19,7 +18,8 @@ abbrev pub point_at : List ℤ → ℕ → Result Point CurveRefusal
 point_at ps tenth = bind (price_of ps tenth) (λ p. then (cost_of ps tenth) (λ c. record { tenth = tenth; price = p; cost = c }))
 
 abbrev pub points_at : List ℤ → List ℕ → Result (List Point) CurveRefusal
-points_at ps tenths = each (point_at ps) tenths
+points_at ps [] = Ok []
+points_at ps (tenth ∷ tenths) = bind (point_at ps tenth) (λ p. then (points_at ps tenths) (λ more. p ∷ more))
 
 -- How many tenths run at a market price.
 abbrev pub dispatch_at : List ℤ → ℤ → Dispatch

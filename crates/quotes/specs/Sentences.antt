@@ -2,7 +2,7 @@
 use Rattle.std.specs.Prelude.{ℕ, List, ◌++◌, codes, decimal}
 use Rattle.offers.specs.Refusals.{layer_name, sentence, told}
 use Rattle.quotes.specs.declared.fault.LineFault.{LineFault}
-use Rattle.quotes.specs.declared.fault.LineFault.TheVariants.{UnknownItem, WordCount, NotANumber, SecondAdder, SecondCap, SecondCurrent, SecondDayAhead, SecondRuc}
+use Rattle.quotes.specs.declared.fault.LineFault.TheVariants.{UnknownItem, WordCount, NotANumber, SecondAdder, SecondCap}
 use Rattle.quotes.specs.declared.fault.OfferFault.{OfferFault}
 use Rattle.quotes.specs.declared.fault.OfferFault.TheVariants.{Line, Refused, Memory}
 
@@ -12,9 +12,6 @@ line_sentence WordCount = codes "wrong number of words"
 line_sentence NotANumber = codes "not a number, or one that does not fit"
 line_sentence SecondAdder = codes "second adder"
 line_sentence SecondCap = codes "second cap"
-line_sentence SecondCurrent = codes "second current offer"
-line_sentence SecondDayAhead = codes "second Day-Ahead hour"
-line_sentence SecondRuc = codes "second RUC interval"
 
 -- A refusal is reported by its number, its layer and its place, and then its sentence.
 abbrev pub fault_sentence : OfferFault → List ℕ

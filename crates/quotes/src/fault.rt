@@ -1,4 +1,4 @@
-// What can be wrong with the text of a unit and its offers.
+// What can be wrong with an offer.
 
 ghost use Rattle.std.specs.Prelude.{◌≡◌, Some};
 ghost use Rattle.quotes.specs.Sentences.{fault_sentence, line_sentence};
@@ -17,12 +17,9 @@ pub enum LineFault {
     NotANumber,
     SecondAdder,
     SecondCap,
-    SecondCurrent,
-    SecondDayAhead,
-    SecondRuc,
 }
 
-// Why a unit was not read or its offer not priced. Lines count from 1.
+// Why an offer was not priced. Lines count from 1.
 #[derive(Clone, Copy, Debug, PartialEq, Eq)]
 pub enum OfferFault {
     Line { number: u64, fault: LineFault },
@@ -64,9 +61,6 @@ impl fmt::Display for LineFault {
             LineFault::NotANumber => write!(f, "not a number, or one that does not fit"),
             LineFault::SecondAdder => write!(f, "second adder"),
             LineFault::SecondCap => write!(f, "second cap"),
-            LineFault::SecondCurrent => write!(f, "second current offer"),
-            LineFault::SecondDayAhead => write!(f, "second Day-Ahead hour"),
-            LineFault::SecondRuc => write!(f, "second RUC interval"),
         }
     }
 }

@@ -1,14 +1,12 @@
-// A unit as text, and the quote of an offer: prices and costs along its curve, and the tenths that run at market prices.
+// An energy offer as text, and its quote: prices and costs along its curve, and the tenths that run at market prices.
+
+#![tactic(auto)]
 
 mod fault;
 mod lines;
-mod numbers;
 mod offer;
 mod pricing;
-mod records;
-mod unit;
 
 pub use fault::{LineFault, OfferFault};
-pub use offer::{Offer, Pile};
-pub use pricing::{Dispatch, Point, Quote, block_curve, price_offer};
-pub use unit::{Unit, read_unit};
+pub use offer::{Offer, Pile, read_offer};
+pub use pricing::{Dispatch, Point, Quote, price_offer};

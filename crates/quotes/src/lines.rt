@@ -2,31 +2,19 @@
 
 ghost use Rattle.std.specs.Prelude.{◌≡◌, map, IfOk};
 ghost use Rattle.quotes.specs.Answers.{Answers, at_line};
-ghost use Rattle.quotes.specs.Lines.{block_of, current_of, item_from, item_of, words_of};
+ghost use Rattle.quotes.specs.Lines.{block_of, item_from, item_of, number_of, only_number, width_of, words_of};
 
 use super::fault::{LineFault, OfferFault};
-use super::numbers::{number, only_number, width};
-use super::records::{day_ahead_of, ruc_of};
-use market::{DayAheadRecord, RucRecord};
 use offers::Block;
 use std::alloc::{AllocError, Global};
 
 // One item of an offer.
-#[derive(Clone, Copy)]
-pub enum Part {
+#[derive(Clone, Copy, Debug, PartialEq)]
+pub enum Item {
     Block(Block),
     Adder(i64),
     Cap(i64),
     Market(i64),
-}
-
-// What one line gives: an item of an offer, the start of the current offer, or a record to settle.
-#[derive(Clone, Copy)]
-pub enum Item {
-    Part(Part),
-    Current,
-    DayAhead(DayAheadRecord),
-    Ruc(RucRecord),
 }
 
 fn words(heap: Global, text: &str) -> Result<Vec<&str>, AllocError>
@@ -41,6 +29,33 @@ fn words(heap: Global, text: &str) -> Result<Vec<&str>, AllocError>
     Ok(found)
 }
 
+fn number(word: &str) -> Result<i64, LineFault>
+    ensures { result ≡ number_of word.now }
+{
+    match word.parse::<i64>() {
+        Ok(number) => Ok(number),
+        Err(_) => Err(LineFault::NotANumber),
+    }
+}
+
+fn width(word: &str) -> Result<u64, LineFault>
+    ensures { result ≡ width_of word.now }
+{
+    match word.parse::<u64>() {
+        Ok(width) => Ok(width),
+        Err(_) => Err(LineFault::NotANumber),
+    }
+}
+
+fn only_number(words: &[&str]) -> Result<i64, LineFault>
+    ensures { result ≡ only_number (map (λ x. x.now) words.now) }
+{
+    match words {
+        [word] => number(word),
+        _ => Err(LineFault::WordCount),
+    }
+}
+
 fn block_of(words: &[&str]) -> Result<Block, LineFault>
     ensures { result ≡ block_of (map (λ x. x.now) words.now) }
 {
@@ -53,27 +68,14 @@ fn block_of(words: &[&str]) -> Result<Block, LineFault>
     }
 }
 
-// The word alone starts the current offer.
-fn current_of(words: &[&str]) -> Result<Item, LineFault>
-    ensures { result ≡ current_of (map (λ x. x.now) words.now) }
-{
-    match words {
-        [] => Ok(Item::Current),
-        _ => Err(LineFault::WordCount),
-    }
-}
-
 fn item_from(kind: &str, words: &[&str]) -> Result<Item, LineFault>
     ensures { result ≡ item_from kind.now (map (λ x. x.now) words.now) }
 {
     match kind {
-        "block" => Ok(Item::Part(Part::Block(block_of(words)?))),
-        "adder" => Ok(Item::Part(Part::Adder(only_number(words)?))),
-        "cap" => Ok(Item::Part(Part::Cap(only_number(words)?))),
-        "market" => Ok(Item::Part(Part::Market(only_number(words)?))),
-        "current" => current_of(words),
-        "day-ahead" => Ok(Item::DayAhead(day_ahead_of(words)?)),
-        "ruc" => Ok(Item::Ruc(ruc_of(words)?)),
+        "block" => Ok(Item::Block(block_of(words)?)),
+        "adder" => Ok(Item::Adder(only_number(words)?)),
+        "cap" => Ok(Item::Cap(only_number(words)?)),
+        "market" => Ok(Item::Market(only_number(words)?)),
         _ => Err(LineFault::UnknownItem),
     }
 }

@@ -1,12 +1,11 @@
-// An offer, taken item by item.
+// An offer, taken item by item from its lines.
 
-ghost use Rattle.std.specs.Prelude.{◌≡◌};
-ghost use Rattle.offers.specs.Answers.{then};
-ghost use Rattle.quotes.specs.Answers.{Answers, at_line};
-ghost use Rattle.quotes.specs.Offers.{adder_laid, asked, cap_laid, laid, nothing, taking};
+ghost use Rattle.std.specs.Prelude.{◌≡◌, map, string_bytes};
+ghost use Rattle.quotes.specs.Answers.{Answers, at_line, then};
+ghost use Rattle.quotes.specs.Offers.{adder_laid, asked, cap_laid, laid, line_taken, nothing, offer_read, taking};
 
 use super::fault::{LineFault, OfferFault};
-use super::lines::Part;
+use super::lines::{Item, read_line};
 use offers::Block;
 use std::alloc::Global;
 
@@ -73,15 +72,35 @@ impl Offer {
         }
     }
 
-    // Takes an item, of the line of this number.
-    pub(crate) fn take(&mut self, number: u64, part: Part) -> Result<(), OfferFault>
-        ensures { Answers (λ _. asked self.new) result (at_line number (taking part (asked self.old))) }
+    // Takes the item of a line.
+    fn take(&mut self, number: u64, item: Item) -> Result<(), OfferFault>
+        ensures { Answers (λ _. asked self.new) result (at_line number (taking item (asked self.old))) }
     {
-        match part {
-            Part::Block(block) => Ok(self.blocks.push(block)?),
-            Part::Market(price) => Ok(self.markets.push(price)?),
-            Part::Cap(limit) => self.lay(number, self.pile.with_cap(limit)),
-            Part::Adder(added) => self.lay(number, self.pile.with_adder(added)),
+        match item {
+            Item::Block(block) => Ok(self.blocks.push(block)?),
+            Item::Market(price) => Ok(self.markets.push(price)?),
+            Item::Cap(limit) => self.lay(number, self.pile.with_cap(limit)),
+            Item::Adder(added) => self.lay(number, self.pile.with_adder(added)),
         }
     }
+
+    fn take_line(&mut self, heap: Global, number: u64, text: &str) -> Result<(), OfferFault>
+        ensures { Answers (λ _. asked self.new) result (at_line number (line_taken (asked self.old) text.now)) }
+    {
+        match read_line(heap, number, text)? {
+            Some(item) => self.take(number, item),
+            None => Ok(()),
+        }
+    }
+}
+
+// The offer that the lines make, or the first fault.
+pub fn read_offer(heap: Global, lines: &[String]) -> Result<Offer, OfferFault>
+    ensures { Answers asked result (offer_read 1 nothing (map string_bytes lines.now)) }
+{
+    let mut offer = Offer::new(heap);
+    for (i, line) in lines.iter().enumerate() {
+        offer.take_line(heap, i as u64 + 1, line.as_str())?;
+    }
+    Ok(offer)
 }

@@ -1,10 +1,11 @@
-// Settles a generating unit: reads it as text on standard input, and prints its offers with their prices and its statement.
+// Settles an energy offer: reads it as text on standard input, prices it, and prints the prices.
+
+#![tactic(auto)]
 
 mod report;
 
-use quotes::{price_offer, read_unit};
+use quotes::{price_offer, read_offer};
 use report::Report;
-use statements::settle_unit;
 
 fn input_lines(rt: &HostRuntime) -> anyhow::Result<Vec<String>> {
     let heap = rt.alloc();
@@ -15,19 +16,15 @@ fn input_lines(rt: &HostRuntime) -> anyhow::Result<Vec<String>> {
     Ok(lines)
 }
 
-// Nothing is printed until all of it is worked out.
+// Nothing is printed until the whole offer is priced.
 fn settle(rt: &HostRuntime) -> anyhow::Result<()> {
     let heap = rt.alloc();
     let lines = input_lines(rt)?;
-    let unit = read_unit(heap, lines.as_slice())?;
-    let committed = price_offer(heap, &unit.committed)?;
-    let current = price_offer(heap, unit.current_offer())?;
-    let statement = settle_unit(heap, &unit)?;
+    let offer = read_offer(heap, lines.as_slice())?;
+    let quote = price_offer(heap, &offer)?;
     rt.print(Report {
-        unit: &unit,
-        committed: &committed,
-        current: &current,
-        statement,
+        offer: &offer,
+        quote: &quote,
     })?;
     Ok(())
 }

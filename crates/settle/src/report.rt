@@ -1,16 +1,12 @@
-// The report of a unit: its offers with their quotes, then its statement.
+// The report of a priced offer.
 
-use market::{Amounts, ProcessRefusal};
-use quotes::{Offer, Pile, Quote, Unit};
-use statements::{RucStatement, Statement};
+use quotes::{Offer, Pile, Quote};
 use std::fmt;
 
 #[derive(Drop)]
 pub struct Report<'a> {
-    pub unit: &'a Unit,
-    pub committed: &'a Quote,
-    pub current: &'a Quote,
-    pub statement: Statement,
+    pub offer: &'a Offer,
+    pub quote: &'a Quote,
 }
 
 fn show_pile<W: fmt::Write>(pile: Pile, f: &mut fmt::Formatter<W>) -> fmt::Result {
@@ -23,8 +19,8 @@ fn show_pile<W: fmt::Write>(pile: Pile, f: &mut fmt::Formatter<W>) -> fmt::Resul
     }
 }
 
-fn show_offer<W: fmt::Write>(name: &str, offer: &Offer, f: &mut fmt::Formatter<W>) -> fmt::Result {
-    writeln!(f, "{name} (tenths of a megawatt, cents per MWh)")?;
+fn show_offer<W: fmt::Write>(offer: &Offer, f: &mut fmt::Formatter<W>) -> fmt::Result {
+    writeln!(f, "offer (tenths of a megawatt, cents per MWh)")?;
     for (i, block) in offer.blocks.iter().enumerate() {
         let number = i + 1;
         let width = block.width;
@@ -50,9 +46,6 @@ fn show_points<W: fmt::Write>(quote: &Quote, f: &mut fmt::Formatter<W>) -> fmt::
 }
 
 fn show_dispatches<W: fmt::Write>(quote: &Quote, f: &mut fmt::Formatter<W>) -> fmt::Result {
-    if quote.dispatches.is_empty() {
-        return Ok(());
-    }
     writeln!(f, "tenths that run (at a market price in cents per MWh)")?;
     for dispatch in quote.dispatches.iter() {
         let market = dispatch.market;
@@ -62,85 +55,10 @@ fn show_dispatches<W: fmt::Write>(quote: &Quote, f: &mut fmt::Formatter<W>) -> f
     Ok(())
 }
 
-fn show_quoted<W: fmt::Write>(
-    name: &str,
-    offer: &Offer,
-    quote: &Quote,
-    f: &mut fmt::Formatter<W>,
-) -> fmt::Result {
-    show_offer(name, offer, f)?;
-    show_points(quote, f)?;
-    show_dispatches(quote, f)
-}
-
-fn show_offers<W: fmt::Write>(report: &Report, f: &mut fmt::Formatter<W>) -> fmt::Result {
-    let committed = &report.unit.committed;
-    match &report.unit.current {
-        Some(current) => {
-            show_quoted("offer at commitment", committed, report.committed, f)?;
-            show_quoted("current offer", current, report.current, f)
-        }
-        None => show_quoted("offer", committed, report.committed, f),
-    }
-}
-
-fn show_amounts<W: fmt::Write>(amounts: Amounts, f: &mut fmt::Formatter<W>) -> fmt::Result {
-    let cost = amounts.cost;
-    let revenue = amounts.revenue;
-    let disallowed = amounts.disallowed;
-    writeln!(
-        f,
-        "  cost {cost}, revenue {revenue}, disallowed {disallowed}"
-    )
-}
-
-// A refusal of a record is an answer too.
-fn show_refusal<W: fmt::Write>(refusal: ProcessRefusal, f: &mut fmt::Formatter<W>) -> fmt::Result {
-    let number = refusal.number();
-    let layer = refusal.layer();
-    let place = refusal.place();
-    writeln!(f, "  refused {number} {layer} {place}: {refusal}")
-}
-
-fn show_hour<W: fmt::Write>(
-    hour: Result<Amounts, ProcessRefusal>,
-    f: &mut fmt::Formatter<W>,
-) -> fmt::Result {
-    writeln!(f, "Day-Ahead hour (ticks, 1/120 cent)")?;
-    match hour {
-        Ok(amounts) => show_amounts(amounts, f),
-        Err(refusal) => show_refusal(refusal, f),
-    }
-}
-
-fn show_interval<W: fmt::Write>(
-    interval: Result<RucStatement, ProcessRefusal>,
-    f: &mut fmt::Formatter<W>,
-) -> fmt::Result {
-    writeln!(f, "RUC interval (ticks, 1/120 cent)")?;
-    match interval {
-        Ok(stated) => {
-            let point = stated.economic_point;
-            show_amounts(stated.amounts, f)?;
-            writeln!(f, "  economic operating point {point} tenths")
-        }
-        Err(refusal) => show_refusal(refusal, f),
-    }
-}
-
-fn show_statement<W: fmt::Write>(statement: Statement, f: &mut fmt::Formatter<W>) -> fmt::Result {
-    if let Some(hour) = statement.day_ahead {
-        show_hour(hour, f)?;
-    }
-    if let Some(interval) = statement.ruc {
-        show_interval(interval, f)?;
-    }
-    Ok(())
-}
-
 impl fmt::Display for Report<'_> {
     fn fmt<W: fmt::Write>(&self, f: &mut fmt::Formatter<W>) -> fmt::Result {
-        show_offers(self, f)?;
-        show_statement(self.statement, f)
+        show_offer(self.offer, f)?;
+        show_points(self.quote, f)?;
+        show_dispatches(self.quote, f)
     }
 }

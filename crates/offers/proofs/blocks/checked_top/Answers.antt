@@ -1,8 +1,7 @@
 use Rattle.std.proofs.Common.{◌≡◌, ◌+◌, length, Some, None, Ok, sym, refl, ap, ◌∙◌, arith, w64, SFits, rules}
 use Rattle.std.proofs.lemmas.List.{at_drop_all}
 use Rattle.std.proofs.lemmas.Int.{to_z-of_z}
-use Rattle.offers.specs.Blocks.{spread, fault, fault_from}
-use Rattle.offers.specs.Answers.{unless}
+use Rattle.offers.specs.Blocks.{spread, fault, fault_from, unless}
 use Rattle.offers.specs.Spreads.{block_at, length_from, fault-stops, fault-goes-on}
 use Rattle.offers.proofs.blocks.checked_top.Goals as goal
 
@@ -18,7 +17,7 @@ loop-block-preserved c =
     let i = c.loop-block.block-index in
     let f : SFits w64 (block_at bs i).price = search rules in
     let l = length_from bs i c.loop-block-test.true in
-    let next = fault-goes-on bs i c.loop-block-test.true c.loop-block.number c.loop-block.top c.loop-block.floor-is None c.in-default.ensures c.loop-block.invariant.2 refl in
+    let next = fault-goes-on bs i c.loop-block-test.true c.loop-block.number c.loop-block.top c.loop-block.floor-is None c.in_default.ensures c.loop-block.invariant.2 refl in
     (omega arith, next.0, simp to_z-of_z next.1, omega arith)
 
 pub returns : goal.returns

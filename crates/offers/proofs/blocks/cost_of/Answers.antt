@@ -1,4 +1,4 @@
-use Rattle.std.proofs.Common.{arith}
+use Rattle.std.proofs.Common.{drop, arith}
 use Rattle.std.proofs.lemmas.List.{at_drop_all}
 use Rattle.std.proofs.lemmas.Int.{ints}
 use Rattle.offers.specs.Spreads.{spent, spent_all, spent-over, spent-done, spent-more, taken-kept, kept-wide}
@@ -17,7 +17,7 @@ overflow-add-cost c = (spent-more _ c.args.blocks.now c.loop-block.block-index c
 
 pub loop-block-preserved : goal.loop-block-preserved
 loop-block-preserved c =
-    let next = spent-more _ c.args.blocks.now c.loop-block.block-index c.loop-block-test.true c.requires.few c.requires.kept c.args.tenths c.loop-block.left c.taken-of-taken.result _ c.cost-of-all-cost.result c.taken-of-taken.ensures c.cost-of-all-cost.ensures c.loop-block.invariant.0 c.loop-block.invariant.1 in
+    let next = spent-more _ c.args.blocks.now c.loop-block.block-index c.loop-block-test.true c.requires.few c.requires.kept c.args.tenths c.loop-block.left c.taken_of-taken.result _ c.cost_of_all-cost.result c.taken_of-taken.ensures c.cost_of_all-cost.ensures c.loop-block.invariant.0 c.loop-block.invariant.1 in
     (next.1, next.2)
 
 pub returns-then-left-gt0 : goal.returns-then-left-gt0

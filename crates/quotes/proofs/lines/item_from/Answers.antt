@@ -5,4 +5,3 @@ pub returns-in-default : goal.returns-in-default
 returns-in-default c =
     unknown c.args.kind.now (texts c.args.words.now)
     c.in-default.not-block c.in-default.not-adder c.in-default.not-cap c.in-default.not-market
-    c.in-default.not-current c.in-default.not-text c.in-default.not-ruc

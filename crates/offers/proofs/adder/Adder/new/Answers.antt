@@ -8,13 +8,13 @@ invariant-of-result g c =
 
 pub returns-then-keeps-2 : goal.returns-then-keeps-2
 returns-then-keeps-2 g c =
-    adder-made c.args.added (g.C.OfferCurve.prices c.args.lower) c.top.result c.in-ok-first.first c.in-ok-last.last c.ranges.added (g.met.C.OfferCurve.lawful c.args.lower) c.top.ensures c.in-ok-first.ensures c.in-ok-last.ensures c.keeps.result c.keeps-then-keeps.result c.keeps.ensures c.keeps-then-keeps.ensures c.if-keeps.true c.if-keeps-2.true
+    adder-made c.args.added (g.C.OfferCurve.prices c.args.lower) c.top.result c.in_ok-first.first c.in_ok-last.last c.ranges.added (g.met.C.OfferCurve.lawful c.args.lower) c.top.ensures c.in_ok-first.ensures c.in_ok-last.ensures c.keeps.result c.keeps-then-keeps.result c.keeps.ensures c.keeps-then-keeps.ensures c.if-keeps.true c.if-keeps-2.true
 
 pub returns-else-keeps : goal.returns-else-keeps
 returns-else-keeps g c =
     elim c.else-keeps.branch [
       | else-keeps-via-then-keeps+else-keeps-2 w ↦
-          adder-unmade-last c.args.added (g.C.OfferCurve.prices c.args.lower) c.top.result c.in-ok-first.first c.in-ok-last.last c.ranges.added (g.met.C.OfferCurve.lawful c.args.lower) c.top.ensures c.in-ok-first.ensures c.in-ok-last.ensures w.keeps-then-keeps.result w.keeps-then-keeps.ensures w.if-keeps-2.false
+          adder-unmade-last c.args.added (g.C.OfferCurve.prices c.args.lower) c.top.result c.in_ok-first.first c.in_ok-last.last c.ranges.added (g.met.C.OfferCurve.lawful c.args.lower) c.top.ensures c.in_ok-first.ensures c.in_ok-last.ensures w.keeps-then-keeps.result w.keeps-then-keeps.ensures w.if-keeps-2.false
       | else-keeps-via-else-keeps w ↦
-          adder-unmade-first c.args.added (g.C.OfferCurve.prices c.args.lower) c.top.result c.in-ok-first.first c.in-ok-last.last c.ranges.added (g.met.C.OfferCurve.lawful c.args.lower) c.top.ensures c.in-ok-first.ensures c.in-ok-last.ensures c.keeps.result c.keeps.ensures w.if-keeps.false
+          adder-unmade-first c.args.added (g.C.OfferCurve.prices c.args.lower) c.top.result c.in_ok-first.first c.in_ok-last.last c.ranges.added (g.met.C.OfferCurve.lawful c.args.lower) c.top.ensures c.in_ok-first.ensures c.in_ok-last.ensures c.keeps.result c.keeps.ensures w.if-keeps.false
     ]

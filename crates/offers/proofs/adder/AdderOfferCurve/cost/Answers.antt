@@ -61,5 +61,5 @@ sum-of-requires g c =
 pub returns : goal.returns
 returns g c =
     let s = c.args.self.now in
-    let parts = c.split-of-parts.ensures in
-    cost-raised s.added (g.C.OfferCurve.prices s.lower) c.args.tenths c.min-lifted.result c.min-kept.result c.count.result c.count-2.result s.modest (g.met.C.OfferCurve.lawful s.lower) (omega arith) c.count.ensures c.count-2.ensures c.min-lifted.ensures c.min-kept.ensures c.in-ok-cost.field-0 c.in-ok-cost-2.field-0 c.cost-of-all.result c.cost-of-all-2.result c.cost-of-all-3.result c.in-ok-cost.ensures c.in-ok-cost-2.ensures (priced-as _ _ _ _ c.cost-of-all.ensures (ap (λ (x : Split). x.raised) parts)) (priced-as _ _ _ _ c.cost-of-all-2.ensures (ap (λ (x : Split). x.lifted) parts)) (priced-as _ _ _ _ c.cost-of-all-3.ensures (ap (λ (x : Split). x.cut) parts)) c.sum-of.result c.sum-of.ensures
+    let parts = c.split_of-parts.ensures in
+    cost-raised s.added (g.C.OfferCurve.prices s.lower) c.args.tenths c.min-lifted.result c.min-kept.result c.count.result c.count-2.result s.modest (g.met.C.OfferCurve.lawful s.lower) (omega arith) c.count.ensures c.count-2.ensures c.min-lifted.ensures c.min-kept.ensures c.in_ok-cost.field-0 c.in_ok-cost-2.field-0 c.cost-of-all.result c.cost-of-all-2.result c.cost-of-all-3.result c.in_ok-cost.ensures c.in_ok-cost-2.ensures (priced-as _ _ _ _ c.cost-of-all.ensures (ap (λ (x : Split). x.raised) parts)) (priced-as _ _ _ _ c.cost-of-all-2.ensures (ap (λ (x : Split). x.lifted) parts)) (priced-as _ _ _ _ c.cost-of-all-3.ensures (ap (λ (x : Split). x.cut) parts)) c.sum-of.result c.sum-of.ensures

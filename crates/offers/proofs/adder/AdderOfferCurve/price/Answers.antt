@@ -21,7 +21,7 @@ pub returns : goal.returns
 returns g c =
     let s = c.args.self.now in
     let ps = g.C.OfferCurve.prices s.lower in
-    let p = c.in-ok-price.price in
-    let within = price-within ps c.args.tenth p (g.met.C.OfferCurve.lawful s.lower) c.in-ok-price.ensures in
+    let p = c.in_ok-price.price in
+    let within = price-within ps c.args.tenth p (g.met.C.OfferCurve.lawful s.lower) c.in_ok-price.ensures in
     let is = clamp-back s.added p within s.modest c.clamp.result c.clamp.ensures.value in
-    price-changed (λ p. clamped (p +ℤ s.added)) ps c.args.tenth p _ is c.in-ok-price.ensures
+    price-changed (λ p. clamped (p +ℤ s.added)) ps c.args.tenth p _ is c.in_ok-price.ensures

@@ -12,5 +12,5 @@ returns-in-err-top c =
 
 pub returns : goal.returns
 returns c =
-    let t = taken-blocks (vec_items c.args.blocks) c.as-slice.result.now c.as-slice.ensures.value c.in-ok-top.top c.in-ok-top.ensures in
+    let t = taken-blocks (vec_items c.args.blocks) c.as_slice.result.now c.as_slice.ensures.value c.in_ok-top.top c.in_ok-top.ensures in
     record { made = t.0; taken = (λ _. t.1, λ _. refl) }

@@ -1,4 +1,5 @@
 use Rattle.std.proofs.Common.{vec_items}
+use Rattle.offers.specs.Blocks.{spread}
 use Rattle.offers.specs.Spreads.{lawful-spread}
 use Rattle.offers.proofs.blocks.BlockCurveOfferCurve.count.Goals as goal
 

@@ -24,4 +24,4 @@ returns g c =
     let s = c.args.self.now in
     let ps = g.C.OfferCurve.prices s.lower in
     let h : c.args.tenths ≤ length ps = omega arith in
-    cost-capped s.limit ps c.args.tenths c.min-under.result c.count.result c.in-ok-below.below c.cost-of-all-level.result s.within (g.met.C.OfferCurve.lawful s.lower) h c.count.ensures c.min-under.ensures c.in-ok-below.ensures c.cost-of-all-level.ensures
+    cost-capped s.limit ps c.args.tenths c.min-under.result c.count.result c.in_ok-below.below c.cost_of_all-level.result s.within (g.met.C.OfferCurve.lawful s.lower) h c.count.ensures c.min-under.ensures c.in_ok-below.ensures c.cost_of_all-level.ensures

@@ -13,6 +13,6 @@ pub returns : goal.returns
 returns g c =
     let s = c.args.self.now in
     let ps = g.C.OfferCurve.prices s.lower in
-    let p = c.in-ok-price.price in
-    let within = price-within ps c.args.tenth p (g.met.C.OfferCurve.lawful s.lower) c.in-ok-price.ensures in
-    price-changed (int_min s.limit) ps c.args.tenth p _ (min-back s.limit p c.at-most.result s.within within c.at-most.ensures) c.in-ok-price.ensures
+    let p = c.in_ok-price.price in
+    let within = price-within ps c.args.tenth p (g.met.C.OfferCurve.lawful s.lower) c.in_ok-price.ensures in
+    price-changed (int_min s.limit) ps c.args.tenth p _ (min-back s.limit p c.at_most.result s.within within c.at_most.ensures) c.in_ok-price.ensures

@@ -14,12 +14,3 @@ returns-in-SecondAdder-clause-writes g c = rw c.in-SecondAdder.is c.write-in-Sec
 
 pub returns-in-SecondCap-clause-writes : goal.returns-in-SecondCap-clause-writes
 returns-in-SecondCap-clause-writes g c = rw c.in-SecondCap.is c.write-in-SecondCap.ensures.writes
-
-pub returns-in-SecondCurrent-clause-writes : goal.returns-in-SecondCurrent-clause-writes
-returns-in-SecondCurrent-clause-writes g c = rw c.in-SecondCurrent.is c.write-in-SecondCurrent.ensures.writes
-
-pub returns-in-SecondDayAhead-clause-writes : goal.returns-in-SecondDayAhead-clause-writes
-returns-in-SecondDayAhead-clause-writes g c = rw c.in-SecondDayAhead.is c.write-in-SecondDayAhead.ensures.writes
-
-pub returns-in-SecondRuc-clause-writes : goal.returns-in-SecondRuc-clause-writes
-returns-in-SecondRuc-clause-writes g c = rw c.in-SecondRuc.is c.write-in-SecondRuc.ensures.writes

@@ -1,27 +1,27 @@
 use Rattle.std.proofs.Common.{map, Err, string_bytes, ap, ◌∙◌, arith}
 use Rattle.std.proofs.lemmas.Result.{err_from_is_err_and}
-use Rattle.quotes.specs.Units.{unit_asked, unit_read}
+use Rattle.quotes.specs.Offers.{asked, offer_read}
 use Rattle.quotes.proofs.Faulting.{faults-on, answers-err}
 use Rattle.quotes.proofs.LineLoop.{one_more, stops, no_more}
-use Rattle.quotes.proofs.unit.read_unit.Goals as goal
+use Rattle.quotes.proofs.offer.read_offer.Goals as goal
 
 pub loop-i-init : goal.loop-i-init
-loop-i-init c = ap (λ a. unit_read 1 a (map string_bytes c.args.lines.now)) c.new-unit.ensures
+loop-i-init c = ap (λ a. offer_read 1 a (map string_bytes c.args.lines.now)) c.new-offer.ensures
 
 pub returns-in-err-take-line : goal.returns-in-err-take-line
 returns-in-err-take-line c =
     let p = err_from_is_err_and c.from-residual.result c.from-residual.ensures.1 in
     answers-err _ _ c.in-err-take-line.field-0.0 _ (p.1 ∙ ap Err p.2)
     (faults-on c.in-err-take-line.field-0.0 _ _
-    (stops string_bytes c.args.lines.now c.loop-i.i c.index-lines-i.result c.as-str.result.now (unit_asked c.loop-i.unit) _
+    (stops string_bytes c.args.lines.now c.loop-i.i c.index-lines-i.result c.as-str.result.now (asked c.loop-i.offer) _
     (omega arith) c.index-lines-i.is c.as-str.ensures.value c.loop-i.invariant)
     c.in-err-take-line.ensures)
 
 pub loop-i-preserved : goal.loop-i-preserved
 loop-i-preserved c =
-    one_more string_bytes c.args.lines.now c.loop-i.i c.index-lines-i.result c.as-str.result.now (unit_asked c.loop-i.unit) _
+    one_more string_bytes c.args.lines.now c.loop-i.i c.index-lines-i.result c.as-str.result.now (asked c.loop-i.offer) _
     (omega arith) c.index-lines-i.is c.as-str.ensures.value c.loop-i.invariant
-    (unit_asked c.take-line.new.self) c.in-ok-take-line.ensures
+    (asked c.take-line.new.self) c.in-ok-take-line.ensures
 
 pub returns : goal.returns
-returns c = no_more string_bytes c.args.lines.now c.loop-i.i (unit_asked c.loop-i.unit) _ (omega arith) c.loop-i.invariant
+returns c = no_more string_bytes c.args.lines.now c.loop-i.i (asked c.loop-i.offer) _ (omega arith) c.loop-i.invariant

@@ -1,5 +1,5 @@
 use Rattle.quotes.proofs.Readings.{width-ok, width-err}
-use Rattle.quotes.proofs.numbers.width.Goals as goal
+use Rattle.quotes.proofs.lines.width.Goals as goal
 
 pub returns-in-Ok : goal.returns-in-Ok
 returns-in-Ok c = width-ok c.args.word.now c.in-Ok.width c.in-Ok.ensures.value.0

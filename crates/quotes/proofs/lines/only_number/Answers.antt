@@ -1,6 +1,6 @@
 use Rattle.std.proofs.Common.{◌∙◌, arith, ltb-false, ltb-true}
 use Rattle.quotes.proofs.Sequences.{only_one, not-one}
-use Rattle.quotes.proofs.numbers.only_number.Goals as goal
+use Rattle.quotes.proofs.lines.only_number.Goals as goal
 
 pub returns-in-len1 : goal.returns-in-len1
 returns-in-len1 c = c.number.ensures ∙ only_one c.args.words.now _ (omega (arith, ltb-true, ltb-false))

@@ -1,6 +1,6 @@
 use Rattle.std.proofs.Common.{refl, to_z-of_z}
 use Rattle.quotes.proofs.Readings.{number_ok, number-err}
-use Rattle.quotes.proofs.numbers.number.Goals as goal
+use Rattle.quotes.proofs.lines.number.Goals as goal
 
 pub returns-in-Ok : goal.returns-in-Ok
 returns-in-Ok c =

@@ -1,10 +1,10 @@
-use Rattle.std.proofs.Common.{◌≡◌, ℤ, pos, ◌*ℤ◌, arith, w64, SFits, to_z, rules}
+use Rattle.std.proofs.Common.{◌≡◌, pos, ◌*ℤ◌, arith, w64, SFits, to_z, rules}
 use Rattle.std.proofs.lemmas.Int.{ints, to_z-of_z}
 use Rattle.offers.specs.Sums.{product-amount, amount-fits}
 use Rattle.offers.proofs.block.cost_of_all.Goals as goal
 
-pub overflow-mul-result : goal.overflow-mul-result
-overflow-mul-result c =
+pub overflow_mul-result : goal.overflow_mul-result
+overflow_mul-result c =
     let b = c.args.block in
     let f : SFits w64 b.price = search rules in
     let w : to_z w64 b.width ≡ pos b.width = omega (arith, ints) in

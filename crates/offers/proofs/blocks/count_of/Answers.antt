@@ -10,8 +10,8 @@ use Rattle.offers.proofs.blocks.count_of.Goals as goal
 pub loop-block-init : goal.loop-block-init
 loop-block-init c = omega arith
 
-pub overflow-add-count : goal.overflow-add-count
-overflow-add-count c =
+pub overflow_add-count : goal.overflow_add-count
+overflow_add-count c =
     let q = to_z w64 (of_z w64 c.args.price) in
     let all = up_to-length q (spread c.args.blocks.now) in
     omega (arith, up_to-from c.args.blocks.now c.loop-block.block-index c.loop-block-test.true q)

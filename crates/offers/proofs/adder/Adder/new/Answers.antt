@@ -2,9 +2,9 @@ use Rattle.offers.proofs.Questions.{adder-made, adder-unmade-first, adder-unmade
 use Rattle.offers.proofs.adder.Adder.new.Goals as goal
 use Rattle.offers.proofs.adder.Adder.new.Goals.{else-keeps-via-then-keeps+else-keeps-2, else-keeps-via-else-keeps}
 
-pub invariant-of-result : goal.invariant-of-result
-invariant-of-result g c =
-    (adder-modest c.args.added (g.C.OfferCurve.prices c.args.lower) c.top.result c.in-ok-first.first c.in-ok-last.last c.ranges.added (g.met.C.OfferCurve.lawful c.args.lower) c.top.ensures c.in-ok-first.ensures c.in-ok-last.ensures c.keeps.result c.keeps-then-keeps.result c.keeps.ensures c.keeps-then-keeps.ensures c.if-keeps.true c.if-keeps-2.true, tt)
+pub invariant_of-result : goal.invariant_of-result
+invariant_of-result g c =
+    record { modest = adder-modest c.args.added (g.C.OfferCurve.prices c.args.lower) c.top.result c.in_ok-first.first c.in_ok-last.last c.ranges.added (g.met.C.OfferCurve.lawful c.args.lower) c.top.ensures c.in_ok-first.ensures c.in_ok-last.ensures c.keeps.result c.keeps-then-keeps.result c.keeps.ensures c.keeps-then-keeps.ensures c.if-keeps.true c.if-keeps-2.true }
 
 pub returns-then-keeps-2 : goal.returns-then-keeps-2
 returns-then-keeps-2 g c =

@@ -22,8 +22,8 @@ returns-then-tenths-top g c =
     let same = length-map ps (λ p. clamped (p +ℤ n)) in
     cost-beyond (raised n ps) c.args.tenths (omega arith)
 
-pub split-of-parts-requires : goal.split-of-parts-requires
-split-of-parts-requires g c =
+pub split_of-parts-requires : goal.split_of-parts-requires
+split_of-parts-requires g c =
     let s = c.args.self.now in
     let l = g.met.C.OfferCurve.lawful s.lower in
     record {
@@ -31,35 +31,35 @@ split-of-parts-requires g c =
       within = omega arith;
     }
 
-pub cost-of-all-requires : goal.cost-of-all-requires
-cost-of-all-requires g c =
+pub cost_of_all-requires : goal.cost_of_all-requires
+cost_of_all-requires g c =
     let s = c.args.self.now in
     let few = (g.met.C.OfferCurve.lawful s.lower).few in
     let low = s.modest.0 in
     let high = s.modest.1 in
-    let w = wide _ _ _ (ap (λ (x : Split). x.raised) c.split-of-parts.ensures) (omega arith) (omega (arith, ints), omega (arith, ints)) in
+    let w = wide _ _ _ (ap (λ (x : Split). x.raised) c.split_of-parts.ensures) (omega arith) (omega (arith, ints), omega (arith, ints)) in
     record { few = w.0; modest = w.1 }
 
-pub cost-of-all-requires-2 : goal.cost-of-all-requires-2
-cost-of-all-requires-2 g c =
+pub cost_of_all-requires-2 : goal.cost_of_all-requires-2
+cost_of_all-requires-2 g c =
     let few = (g.met.C.OfferCurve.lawful c.args.self.now.lower).few in
-    let w = wide _ _ _ (ap (λ (x : Split). x.lifted) c.split-of-parts.ensures) (omega arith) (omega (arith, ints), omega (arith, ints)) in
+    let w = wide _ _ _ (ap (λ (x : Split). x.lifted) c.split_of-parts.ensures) (omega arith) (omega (arith, ints), omega (arith, ints)) in
     record { few = w.0; modest = w.1 }
 
-pub cost-of-all-requires-3 : goal.cost-of-all-requires-3
-cost-of-all-requires-3 g c =
+pub cost_of_all-requires-3 : goal.cost_of_all-requires-3
+cost_of_all-requires-3 g c =
     let few = (g.met.C.OfferCurve.lawful c.args.self.now.lower).few in
-    let w = wide _ _ _ (ap (λ (x : Split). x.cut) c.split-of-parts.ensures) (omega arith) (omega (arith, ints), omega (arith, ints)) in
+    let w = wide _ _ _ (ap (λ (x : Split). x.cut) c.split_of-parts.ensures) (omega arith) (omega (arith, ints), omega (arith, ints)) in
     record { few = w.0; modest = w.1 }
 
-pub sum-of-requires : goal.sum-of-requires
-sum-of-requires g c =
+pub sum_of-requires : goal.sum_of-requires
+sum_of-requires g c =
     let s = c.args.self.now in
-    let parts = c.split-of-parts.ensures in
-    raised-amounts s.added (g.C.OfferCurve.prices s.lower) c.args.tenths c.min-lifted.result c.min-kept.result c.count.result c.count-2.result s.modest (g.met.C.OfferCurve.lawful s.lower) (omega arith) c.count.ensures c.count-2.ensures c.min-lifted.ensures c.min-kept.ensures c.in-ok-cost.field-0 c.in-ok-cost-2.field-0 c.cost-of-all.result c.cost-of-all-2.result c.cost-of-all-3.result c.in-ok-cost.ensures c.in-ok-cost-2.ensures (priced-as _ _ _ _ c.cost-of-all.ensures (ap (λ (x : Split). x.raised) parts)) (priced-as _ _ _ _ c.cost-of-all-2.ensures (ap (λ (x : Split). x.lifted) parts)) (priced-as _ _ _ _ c.cost-of-all-3.ensures (ap (λ (x : Split). x.cut) parts))
+    let parts = c.split_of-parts.ensures in
+    raised-amounts s.added (g.C.OfferCurve.prices s.lower) c.args.tenths c.min-lifted.result c.min-kept.result c.count.result c.count-2.result s.modest (g.met.C.OfferCurve.lawful s.lower) (omega arith) c.count.ensures c.count-2.ensures c.min-lifted.ensures c.min-kept.ensures c.in_ok-cost.field-0 c.in_ok-cost-2.field-0 c.cost_of_all.result c.cost_of_all-2.result c.cost_of_all-3.result c.in_ok-cost.ensures c.in_ok-cost-2.ensures (priced-as _ _ _ _ c.cost_of_all.ensures (ap (λ (x : Split). x.raised) parts)) (priced-as _ _ _ _ c.cost_of_all-2.ensures (ap (λ (x : Split). x.lifted) parts)) (priced-as _ _ _ _ c.cost_of_all-3.ensures (ap (λ (x : Split). x.cut) parts))
 
 pub returns : goal.returns
 returns g c =
     let s = c.args.self.now in
     let parts = c.split_of-parts.ensures in
-    cost-raised s.added (g.C.OfferCurve.prices s.lower) c.args.tenths c.min-lifted.result c.min-kept.result c.count.result c.count-2.result s.modest (g.met.C.OfferCurve.lawful s.lower) (omega arith) c.count.ensures c.count-2.ensures c.min-lifted.ensures c.min-kept.ensures c.in_ok-cost.field-0 c.in_ok-cost-2.field-0 c.cost-of-all.result c.cost-of-all-2.result c.cost-of-all-3.result c.in_ok-cost.ensures c.in_ok-cost-2.ensures (priced-as _ _ _ _ c.cost-of-all.ensures (ap (λ (x : Split). x.raised) parts)) (priced-as _ _ _ _ c.cost-of-all-2.ensures (ap (λ (x : Split). x.lifted) parts)) (priced-as _ _ _ _ c.cost-of-all-3.ensures (ap (λ (x : Split). x.cut) parts)) c.sum-of.result c.sum-of.ensures
+    cost-raised s.added (g.C.OfferCurve.prices s.lower) c.args.tenths c.min-lifted.result c.min-kept.result c.count.result c.count-2.result s.modest (g.met.C.OfferCurve.lawful s.lower) (omega arith) c.count.ensures c.count-2.ensures c.min-lifted.ensures c.min-kept.ensures c.in_ok-cost.field-0 c.in_ok-cost-2.field-0 c.cost_of_all.result c.cost_of_all-2.result c.cost_of_all-3.result c.in_ok-cost.ensures c.in_ok-cost-2.ensures (priced-as _ _ _ _ c.cost_of_all.ensures (ap (λ (x : Split). x.raised) parts)) (priced-as _ _ _ _ c.cost_of_all-2.ensures (ap (λ (x : Split). x.lifted) parts)) (priced-as _ _ _ _ c.cost_of_all-3.ensures (ap (λ (x : Split). x.cut) parts)) c.sum_of.result c.sum_of.ensures

@@ -4,17 +4,17 @@ use Rattle.offers.specs.Piles.{clamped}
 use Rattle.offers.proofs.Questions.{price-refused, price-changed, price-within, raised-fits, clamp-back}
 use Rattle.offers.proofs.adder.AdderOfferCurve.price.Goals as goal
 
-pub returns-in-err-price : goal.returns-in-err-price
-returns-in-err-price g c =
+pub returns-in_err-price : goal.returns-in_err-price
+returns-in_err-price g c =
     let s = c.args.self.now in
-    let e = err_from_is_err_and c.from-residual.result c.from-residual.ensures.1 in
-    rw (e.1, e.2) (price-refused (λ p. clamped (p +ℤ s.added)) (g.C.OfferCurve.prices s.lower) c.args.tenth _ c.in-err-price.ensures)
+    let e = err_from_is_err_and c.from_residual.result c.from_residual.ensures.1 in
+    rw (e.1, e.2) (price-refused (λ p. clamped (p +ℤ s.added)) (g.C.OfferCurve.prices s.lower) c.args.tenth _ c.in_err-price.ensures)
 
-pub overflow-add-price : goal.overflow-add-price
-overflow-add-price g c =
+pub overflow_add-price : goal.overflow_add-price
+overflow_add-price g c =
     let s = c.args.self.now in
-    let p = c.in-ok-price.price in
-    let within = price-within (g.C.OfferCurve.prices s.lower) c.args.tenth p (g.met.C.OfferCurve.lawful s.lower) c.in-ok-price.ensures in
+    let p = c.in_ok-price.price in
+    let within = price-within (g.C.OfferCurve.prices s.lower) c.args.tenth p (g.met.C.OfferCurve.lawful s.lower) c.in_ok-price.ensures in
     raised-fits s.added p within s.modest
 
 pub returns : goal.returns

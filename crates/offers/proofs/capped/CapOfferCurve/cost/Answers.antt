@@ -12,12 +12,12 @@ returns-then-tenths-top g c =
     let same = length-map ps (int_min limit) in
     cost-beyond (capped limit ps) c.args.tenths (omega arith)
 
-pub overflow-add-result : goal.overflow-add-result
-overflow-add-result g c =
+pub overflow_add-result : goal.overflow_add-result
+overflow_add-result g c =
     let s = c.args.self.now in
     let ps = g.C.OfferCurve.prices s.lower in
     let h : c.args.tenths ≤ length ps = omega arith in
-    capped_fits s.limit ps c.args.tenths c.min-under.result c.count.result c.in-ok-below.below c.cost-of-all-level.result s.within (g.met.C.OfferCurve.lawful s.lower) h c.count.ensures c.min-under.ensures c.in-ok-below.ensures c.cost-of-all-level.ensures
+    capped_fits s.limit ps c.args.tenths c.min-under.result c.count.result c.in_ok-below.below c.cost_of_all-level.result s.within (g.met.C.OfferCurve.lawful s.lower) h c.count.ensures c.min-under.ensures c.in_ok-below.ensures c.cost_of_all-level.ensures
 
 pub returns : goal.returns
 returns g c =

@@ -3,11 +3,11 @@ use Rattle.std.specs.Int.{int_min}
 use Rattle.offers.proofs.Questions.{price-refused, price-changed, price-within, min-back}
 use Rattle.offers.proofs.capped.CapOfferCurve.price.Goals as goal
 
-pub returns-in-err-price : goal.returns-in-err-price
-returns-in-err-price g c =
+pub returns-in_err-price : goal.returns-in_err-price
+returns-in_err-price g c =
     let s = c.args.self.now in
-    let e = err_from_is_err_and c.from-residual.result c.from-residual.ensures.1 in
-    rw (e.1, e.2) (price-refused (int_min s.limit) (g.C.OfferCurve.prices s.lower) c.args.tenth _ c.in-err-price.ensures)
+    let e = err_from_is_err_and c.from_residual.result c.from_residual.ensures.1 in
+    rw (e.1, e.2) (price-refused (int_min s.limit) (g.C.OfferCurve.prices s.lower) c.args.tenth _ c.in_err-price.ensures)
 
 pub returns : goal.returns
 returns g c =

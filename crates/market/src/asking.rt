@@ -8,7 +8,7 @@ use offers::OfferCurve;
 
 // The cost of the first tenths; that a curve has no such tenth is handed up.
 pub(crate) fn cost_at<C: OfferCurve>(curve: &C, tenths: u64) -> Result<i64, ProcessRefusal>
-    ensures { result ≡ cost_at (prices curve.now) tenths }
+    ensures { result ≡ cost_at (C.prices curve.now) tenths }
 {
     match curve.cost(tenths) {
         Ok(cost) => Ok(cost),

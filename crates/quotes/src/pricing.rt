@@ -34,7 +34,7 @@ pub struct Quote {
 }
 
 fn point_at<C: OfferCurve>(curve: &C, tenth: u64) -> Result<Point, OfferFault>
-    ensures { Answers (λ x. x) result (as_refused (point_at (prices curve.now) tenth)) }
+    ensures { Answers (λ x. x) result (as_refused (point_at (C.prices curve.now) tenth)) }
 {
     let price = curve.price(tenth)?;
     let cost = curve.cost(tenth)?;
@@ -46,7 +46,7 @@ fn points_at<C: OfferCurve>(
     curve: &C,
     tenths: &[u64],
 ) -> Result<Vec<Point>, OfferFault>
-    ensures { Answers vec_items result (as_refused (points_at (prices curve.now) tenths.now)) }
+    ensures { Answers vec_items result (as_refused (points_at (C.prices curve.now) tenths.now)) }
 {
     let mut points = Vec::new(heap);
     for tenth in tenths {
@@ -56,7 +56,7 @@ fn points_at<C: OfferCurve>(
 }
 
 fn dispatch_at<C: OfferCurve>(curve: &C, market: i64) -> Dispatch
-    ensures { result ≡ dispatch_at (prices curve.now) market }
+    ensures { result ≡ dispatch_at (C.prices curve.now) market }
 {
     Dispatch {
         market,
@@ -69,7 +69,7 @@ fn dispatches_at<C: OfferCurve>(
     curve: &C,
     markets: &[i64],
 ) -> Result<Vec<Dispatch>, OfferFault>
-    ensures { Answers vec_items result (Ok (map (dispatch_at (prices curve.now)) markets.now)) }
+    ensures { Answers vec_items result (Ok (map (dispatch_at (C.prices curve.now)) markets.now)) }
 {
     let mut dispatches = Vec::new(heap);
     for market in markets {
@@ -85,7 +85,7 @@ pub(crate) fn quote_at<C: OfferCurve>(
     tenths: &[u64],
     markets: &[i64],
 ) -> Result<Quote, OfferFault>
-    ensures { Answers quoted result (as_refused (quote_at tenths.now markets.now (prices curve.now))) }
+    ensures { Answers quoted result (as_refused (quote_at tenths.now markets.now (C.prices curve.now))) }
 {
     let points = points_at(heap, curve, tenths)?;
     let dispatches = dispatches_at(heap, curve, markets)?;
@@ -103,7 +103,7 @@ fn quote_capped<C: OfferCurve + Drop>(
     tenths: &[u64],
     markets: &[i64],
 ) -> Result<Quote, OfferFault>
-    ensures { Answers quoted result (as_refused (bind (cap_asked limit (prices curve)) (quote_at tenths.now markets.now))) }
+    ensures { Answers quoted result (as_refused (bind (cap_asked limit (C.prices curve)) (quote_at tenths.now markets.now))) }
 {
     let capped = Cap::new(curve, limit)?;
     quote_at(heap, &capped, tenths, markets)
@@ -116,7 +116,7 @@ fn quote_raised<C: OfferCurve + Drop>(
     tenths: &[u64],
     markets: &[i64],
 ) -> Result<Quote, OfferFault>
-    ensures { Answers quoted result (as_refused (bind (adder_asked added (prices curve)) (quote_at tenths.now markets.now))) }
+    ensures { Answers quoted result (as_refused (bind (adder_asked added (C.prices curve)) (quote_at tenths.now markets.now))) }
 {
     let raised = Adder::new(curve, added)?;
     quote_at(heap, &raised, tenths, markets)
@@ -129,7 +129,7 @@ fn quote_pile<C: OfferCurve + Drop>(
     tenths: &[u64],
     markets: &[i64],
 ) -> Result<Quote, OfferFault>
-    ensures { Answers quoted result (as_refused (bind (piled pile (prices curve)) (quote_at tenths.now markets.now))) }
+    ensures { Answers quoted result (as_refused (bind (piled pile (C.prices curve)) (quote_at tenths.now markets.now))) }
 {
     match pile {
         Pile::Bare => quote_at(heap, &curve, tenths, markets),

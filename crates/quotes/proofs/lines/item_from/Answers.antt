@@ -1,7 +1,7 @@
 use Rattle.quotes.proofs.Sequences.{texts, unknown}
 use Rattle.quotes.proofs.lines.item_from.Goals as goal
 
-pub returns-in-default : goal.returns-in-default
-returns-in-default c =
+pub returns-in_default : goal.returns-in_default
+returns-in_default c =
     unknown c.args.kind.now (texts c.args.words.now)
-    c.in-default.not-block c.in-default.not-adder c.in-default.not-cap c.in-default.not-market
+    c.in_default.not-block c.in_default.not-adder c.in_default.not-cap c.in_default.not-market

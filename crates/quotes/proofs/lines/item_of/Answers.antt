@@ -5,18 +5,18 @@ use Rattle.quotes.specs.Answers.{then}
 use Rattle.quotes.proofs.Sequences.{blank, named}
 use Rattle.quotes.proofs.lines.item_of.Goals as goal
 
-pub returns-in-default : goal.returns-in-default
-returns-in-default c = blank c.args.words.now (λ some. omega (arith, ltb-true, ltb-false))
+pub returns-in_default : goal.returns-in_default
+returns-in_default c = blank c.args.words.now (λ some. omega (arith, ltb-true, ltb-false))
 
-pub returns-in-err-item-from : goal.returns-in-err-item-from
-returns-in-err-item-from c =
-    let p = err_from_is_err_and c.from-residual.result c.from-residual.ensures.1 in
-    let told = starts_char 35 _ c.starts-with.result c.starts-with.ensures.cases (omega arith) (omega arith) in
-    let item = named c.args.words.now _ c.starts-with.result (omega (arith, ltb-true, ltb-false)) told c.if-starts-with.false in
-    rw (p.1, p.2) (sym (item ∙ ap (λ r. then r Some) (sym c.in-err-item-from.ensures)))
+pub returns-in_err-item_from : goal.returns-in_err-item_from
+returns-in_err-item_from c =
+    let p = err_from_is_err_and c.from_residual.result c.from_residual.ensures.1 in
+    let told = starts_char 35 _ c.starts_with.result c.starts_with.ensures.cases (omega arith) (omega arith) in
+    let item = named c.args.words.now _ c.starts_with.result (omega (arith, ltb-true, ltb-false)) told c.if-starts_with.false in
+    rw (p.1, p.2) (sym (item ∙ ap (λ r. then r Some) (sym c.in_err-item_from.ensures)))
 
 pub returns : goal.returns
 returns c =
-    let told = starts_char 35 _ c.starts-with.result c.starts-with.ensures.cases (omega arith) (omega arith) in
-    let item = named c.args.words.now _ c.starts-with.result (omega (arith, ltb-true, ltb-false)) told c.if-starts-with.false in
-    sym (item ∙ ap (λ r. then r Some) (sym c.in-ok-item-from.ensures))
+    let told = starts_char 35 _ c.starts_with.result c.starts_with.ensures.cases (omega arith) (omega arith) in
+    let item = named c.args.words.now _ c.starts_with.result (omega (arith, ltb-true, ltb-false)) told c.if-starts_with.false in
+    sym (item ∙ ap (λ r. then r Some) (sym c.in_ok-item_from.ensures))

@@ -5,8 +5,8 @@ use Rattle.quotes.proofs.lines.only_number.Goals as goal
 pub returns-in-len1 : goal.returns-in-len1
 returns-in-len1 c = c.number.ensures ∙ only_one c.args.words.now _ (omega (arith, ltb-true, ltb-false))
 
-pub returns-in-default : goal.returns-in-default
-returns-in-default c = not-one c.args.words.now (λ e. omega (arith, ltb-true, ltb-false))
+pub returns-in_default : goal.returns-in_default
+returns-in_default c = not-one c.args.words.now (λ e. omega (arith, ltb-true, ltb-false))
 
-pub returns-in-default·2 : goal.returns-in-default·2
-returns-in-default·2 c = not-one c.args.words.now (λ e. omega (arith, ltb-true, ltb-false))
+pub returns-in_default-2 : goal.returns-in_default-2
+returns-in_default-2 c = not-one c.args.words.now (λ e. omega (arith, ltb-true, ltb-false))

@@ -8,20 +8,20 @@ use Rattle.quotes.proofs.offer.read_offer.Goals as goal
 pub loop-i-init : goal.loop-i-init
 loop-i-init c = ap (λ a. offer_read 1 a (map string_bytes c.args.lines.now)) c.new-offer.ensures
 
-pub returns-in-err-take-line : goal.returns-in-err-take-line
-returns-in-err-take-line c =
-    let p = err_from_is_err_and c.from-residual.result c.from-residual.ensures.1 in
-    answers-err _ _ c.in-err-take-line.field-0.0 _ (p.1 ∙ ap Err p.2)
-    (faults-on c.in-err-take-line.field-0.0 _ _
-    (stops string_bytes c.args.lines.now c.loop-i.i c.index-lines-i.result c.as-str.result.now (asked c.loop-i.offer) _
-    (omega arith) c.index-lines-i.is c.as-str.ensures.value c.loop-i.invariant)
-    c.in-err-take-line.ensures)
+pub returns-in_err-take_line : goal.returns-in_err-take_line
+returns-in_err-take_line c =
+    let p = err_from_is_err_and c.from_residual.result c.from_residual.ensures.1 in
+    answers-err _ _ c.in_err-take_line.field-0.0 _ (p.1 ∙ ap Err p.2)
+    (faults-on c.in_err-take_line.field-0.0 _ _
+    (stops string_bytes c.args.lines.now c.loop-i.i c.index-lines-i.result c.as_str.result.now (asked c.loop-i.offer) _
+    (omega arith) c.index-lines-i.is c.as_str.ensures.value c.loop-i.invariant)
+    c.in_err-take_line.ensures)
 
 pub loop-i-preserved : goal.loop-i-preserved
 loop-i-preserved c =
-    one_more string_bytes c.args.lines.now c.loop-i.i c.index-lines-i.result c.as-str.result.now (asked c.loop-i.offer) _
-    (omega arith) c.index-lines-i.is c.as-str.ensures.value c.loop-i.invariant
-    (asked c.take-line.new.self) c.in-ok-take-line.ensures
+    one_more string_bytes c.args.lines.now c.loop-i.i c.index-lines-i.result c.as_str.result.now (asked c.loop-i.offer) _
+    (omega arith) c.index-lines-i.is c.as_str.ensures.value c.loop-i.invariant
+    (asked c.take_line.new.self) c.in_ok-take_line.ensures
 
 pub returns : goal.returns
 returns c = no_more string_bytes c.args.lines.now c.loop-i.i (asked c.loop-i.offer) _ (omega arith) c.loop-i.invariant

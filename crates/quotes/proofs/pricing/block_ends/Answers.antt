@@ -9,13 +9,13 @@ loop-block-init c = (
   omega (arith, ap width_of_all c.blocks-block-items.ensures, narrow (vec_items c.args.curve.now.blocks) c.args.curve.now.faultless),
 )
 
-pub overflow-add-end : goal.overflow-add-end
-overflow-add-end c =
+pub overflow_add-end : goal.overflow_add-end
+overflow_add-end c =
     omega (arith, c.loop-block.invariant.1, one-wide c.blocks-block-items.result.now c.loop-block.block-index (record { width = 0; price = pos 0 }) (omega arith))
 
 pub loop-block-preserved : goal.loop-block-preserved
 loop-block-preserved c = (
-  one_end c.blocks-block-items.result.now c.loop-block.block-index c.loop-block.end _ _ _ _ (omega arith) c.loop-block.invariant.0 c.in-ok-push.ensures.items,
+  one_end c.blocks-block-items.result.now c.loop-block.block-index c.loop-block.end _ _ _ _ (omega arith) c.loop-block.invariant.0 c.in_ok-push.ensures.items,
   omega (arith, c.loop-block.invariant.1, one-wide c.blocks-block-items.result.now c.loop-block.block-index (record { width = 0; price = pos 0 }) (omega arith)),
 )
 

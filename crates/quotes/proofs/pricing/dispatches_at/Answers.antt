@@ -8,8 +8,8 @@ pub loop-market-preserved : goal.loop-market-preserved
 loop-market-preserved g c =
     let market = get_or c.args.markets.now c.loop-market.market-index (pos 0) in
     let same : to_z w64 (of_z w64 market) ≡ market = search rules in
-    one-dispatch (g.C.OfferCurve.prices c.args.curve.now) c.args.markets.now c.loop-market.market-index (to_z w64 (of_z w64 market)) c.dispatch-at.result
-    (vec_items c.loop-market.dispatches) _ (omega arith) same c.dispatch-at.ensures c.loop-market.invariant c.in-ok-push.ensures.items
+    one-dispatch (g.C.OfferCurve.prices c.args.curve.now) c.args.markets.now c.loop-market.market-index (to_z w64 (of_z w64 market)) c.dispatch_at.result
+    (vec_items c.loop-market.dispatches) _ (omega arith) same c.dispatch_at.ensures c.loop-market.invariant c.in_ok-push.ensures.items
 
 pub returns : goal.returns
 returns g c =

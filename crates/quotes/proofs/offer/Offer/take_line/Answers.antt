@@ -6,16 +6,16 @@ use Rattle.quotes.specs.Offers.{asked, taking_any}
 use Rattle.quotes.proofs.Faulting.{faults-on, answers-err, answers_at, line_ok, line-fault}
 use Rattle.quotes.proofs.offer.Offer.take_line.Goals as goal
 
-pub returns-in-err-item : goal.returns-in-err-item
-returns-in-err-item c =
-    let p = err_from_is_err_and c.from-residual.result c.from-residual.ensures.1 in
-    answers-err _ _ c.in-err-item.field-0.0 _ (p.1 ∙ ap Err p.2)
-    (faults-on c.in-err-item.field-0.0 _ _
+pub returns-in_err-item : goal.returns-in_err-item
+returns-in_err-item c =
+    let p = err_from_is_err_and c.from_residual.result c.from_residual.ensures.1 in
+    answers-err _ _ c.in_err-item.field-0.0 _ (p.1 ∙ ap Err p.2)
+    (faults-on c.in_err-item.field-0.0 _ _
     (line-fault c.args.number (item_of (words_of c.args.text.now)) (λ item. taking_any item (asked c.args.self.now)))
-    c.in-err-item.ensures)
+    c.in_err-item.ensures)
 
 pub returns-in-Some : goal.returns-in-Some
 returns-in-Some c =
-    let read = line_ok c.args.number (item_of (words_of c.args.text.now)) _ c.in-ok-item.ensures in
+    let read = line_ok c.args.number (item_of (words_of c.args.text.now)) _ c.in_ok-item.ensures in
     let item = read ∙ ap Ok c.in-Some.is in
     answers_at (λ (_ : Unit {0}). asked c.take.new.self) c.take.result _ _ (ap (λ r. at_line c.args.number (bind r (λ item. taking_any item (asked c.args.self.now)))) (sym item)) c.take.ensures

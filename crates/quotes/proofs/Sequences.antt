@@ -1,5 +1,5 @@
 -- Words in a row: a slice of so many, and the items that they give.
-use Rattle.std.proofs.Common.{◌≡◌, ℕ, ◌-◌, ◌<◌, Bool, true, false, eqb, List, [], ◌∷◌, map, length, get_or, take, drop, ℤ, Some, None, Ok, Err, codes, Decides, refl, ap, arith, Bor}
+use Rattle.std.proofs.Common.{◌≡◌, ℕ, ◌-◌, ◌<◌, Bool, true, false, List, [], ◌∷◌, map, length, get_or, take, drop, ℤ, Some, None, Ok, Err, codes, Decides, refl, arith, Bor}
 use Rattle.std.specs.Str.{bytes_eq}
 use Rattle.std.proofs.lemmas.Slice.Eq.{bytes_eq-Decides}
 use Rattle.std.proofs.lemmas.List.{take_rest}

@@ -3,8 +3,8 @@ use Rattle.std.proofs.lemmas.Int.{ints, to_z-of_z}
 use Rattle.market.specs.Products.{sold-within, within-fits}
 use Rattle.market.proofs.parts.sold.Goals as goal
 
-pub overflow-mul-result : goal.overflow-mul-result
-overflow-mul-result c =
+pub overflow_mul-result : goal.overflow_mul-result
+overflow_mul-result c =
     let p = c.args.parts in
     let f : SFits w64 p.power = search rules in
     let g : SFits w64 p.price = search rules in

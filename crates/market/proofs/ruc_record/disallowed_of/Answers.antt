@@ -8,10 +8,10 @@ returns c =
     let fits = c.ranges.excess in
     let x = c.args.step in
     let z = c.args.excess in
-    let a : c.ticks-if-first.result ≡ cond (off_setpoint x) z (pos 0) = simp (to_z-of_z, c.off-setpoint.ensures) at c.ticks-if-first.ensures.value in
-    let b : c.ticks-if-second.result ≡ cond (non_dispatchable x) z (pos 0) = simp (to_z-of_z, c.is-non-dispatchable.ensures) at c.ticks-if-second.ensures.value in
-    let d : c.ticks-if-third.result ≡ cond (minimum_raised x) z (pos 0) = simp (to_z-of_z, c.minimum-raised.ensures) at c.ticks-if-third.ensures.value in
-    let l = c.ticks-if-first.ensures.modest in
-    let m = c.ticks-if-second.ensures.modest in
-    let n = c.ticks-if-third.ensures.modest in
+    let a : c.ticks_if-first.result ≡ cond (off_setpoint x) z (pos 0) = simp (to_z-of_z, c.off_setpoint.ensures) at c.ticks_if-first.ensures.value in
+    let b : c.ticks_if-second.result ≡ cond (non_dispatchable x) z (pos 0) = simp (to_z-of_z, c.is_non_dispatchable.ensures) at c.ticks_if-second.ensures.value in
+    let d : c.ticks_if-third.result ≡ cond (minimum_raised x) z (pos 0) = simp (to_z-of_z, c.minimum_raised.ensures) at c.ticks_if-third.ensures.value in
+    let l = c.ticks_if-first.ensures.modest in
+    let m = c.ticks_if-second.ensures.modest in
+    let n = c.ticks_if-third.ensures.modest in
     omega (arith, ints)

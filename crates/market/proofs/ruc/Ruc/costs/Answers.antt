@@ -8,51 +8,51 @@ use Rattle.market.specs.Intervals.{checked-interval, interval-taken, held-decide
 use Rattle.market.specs.Refusing.{cost-passed, cost-given}
 use Rattle.market.proofs.ruc.Ruc.costs.Goals as goal
 
-pub returns-in-err-committed-cost : goal.returns-in-err-committed-cost
-returns-in-err-committed-cost g c =
+pub returns-in_err-committed_cost : goal.returns-in_err-committed_cost
+returns-in_err-committed_cost g c =
     let cs = g.C.OfferCurve.prices c.args.self.now.committed in
     let ns = g.N.OfferCurve.prices c.args.self.now.current in
     let x = c.args.step.now in
-    let t = checked-interval cs ns x c.in-ok-check.ensures in
-    absurd (cost-given cs c.held.result (held_output x) _ c.held.ensures (held-decided cs ns x t) c.in-err-committed-cost.ensures)
+    let t = checked-interval cs ns x c.in_ok-check.ensures in
+    absurd (cost-given cs c.held.result (held_output x) _ c.held.ensures (held-decided cs ns x t) c.in_err-committed_cost.ensures)
 
-pub returns-in-err-current-cost : goal.returns-in-err-current-cost
-returns-in-err-current-cost g c =
+pub returns-in_err-current_cost : goal.returns-in_err-current_cost
+returns-in_err-current_cost g c =
     let cs = g.C.OfferCurve.prices c.args.self.now.committed in
     let ns = g.N.OfferCurve.prices c.args.self.now.current in
     let x = c.args.step.now in
-    let t = checked-interval cs ns x c.in-ok-check.ensures in
-    absurd (cost-given ns c.held-2.result (held_output x) _ c.held-2.ensures (held-current cs ns x t) c.in-err-current-cost.ensures)
+    let t = checked-interval cs ns x c.in_ok-check.ensures in
+    absurd (cost-given ns c.held-2.result (held_output x) _ c.held-2.ensures (held-current cs ns x t) c.in_err-current_cost.ensures)
 
-pub returns-in-err-current-cost-2 : goal.returns-in-err-current-cost-2
-returns-in-err-current-cost-2 g c =
+pub returns-in_err-current_cost-2 : goal.returns-in_err-current_cost-2
+returns-in_err-current_cost-2 g c =
     let cs = g.C.OfferCurve.prices c.args.self.now.committed in
     let ns = g.N.OfferCurve.prices c.args.self.now.current in
     let x = c.args.step.now in
-    let t = checked-interval cs ns x c.in-ok-check.ensures in
-    absurd (cost-given ns c.output.result (nat_abs x.actual) _ c.output.ensures t.output c.in-err-current-cost-2.ensures)
+    let t = checked-interval cs ns x c.in_ok-check.ensures in
+    absurd (cost-given ns c.output.result (nat_abs x.actual) _ c.output.ensures t.output c.in_err-current_cost-2.ensures)
 
-pub returns-in-err-current-cost-3 : goal.returns-in-err-current-cost-3
-returns-in-err-current-cost-3 g c =
+pub returns-in_err-current_cost-3 : goal.returns-in_err-current_cost-3
+returns-in_err-current_cost-3 g c =
     let cs = g.C.OfferCurve.prices c.args.self.now.committed in
     let ns = g.N.OfferCurve.prices c.args.self.now.current in
     let x = c.args.step.now in
-    let t = checked-interval cs ns x c.in-ok-check.ensures in
-    absurd (cost-given ns c.point.result (economic_point ns x) _ c.point.ensures (point-current cs ns x t) c.in-err-current-cost-3.ensures)
+    let t = checked-interval cs ns x c.in_ok-check.ensures in
+    absurd (cost-given ns c.point.result (economic_point ns x) _ c.point.ensures (point-current cs ns x t) c.in_err-current_cost-3.ensures)
 
 pub returns : goal.returns
 returns g c =
     let cs = g.C.OfferCurve.prices c.args.self.now.committed in
     let ns = g.N.OfferCurve.prices c.args.self.now.current in
     let x = c.args.step.now in
-    let t = checked-interval cs ns x c.in-ok-check.ensures in
-    let f0 : SFits w64 c.in-ok-committed-cost.field-0 = search rules in
-    let f1 : SFits w64 c.in-ok-current-cost.field-0 = search rules in
-    let f2 : SFits w64 c.in-ok-current-cost-2.field-0 = search rules in
-    let f3 : SFits w64 c.in-ok-current-cost-3.field-0 = search rules in
-    let e0 : to_z w64 (of_z w64 c.in-ok-committed-cost.field-0) ≡ cost_up_to cs (held_output x) = to_z-of_z w64 _ f0 ∙ (cost-passed cs c.held.result (held_output x) _ c.held.ensures c.in-ok-committed-cost.ensures).1 in
-    let e1 : to_z w64 (of_z w64 c.in-ok-current-cost.field-0) ≡ cost_up_to ns (held_output x) = to_z-of_z w64 _ f1 ∙ (cost-passed ns c.held-2.result (held_output x) _ c.held-2.ensures c.in-ok-current-cost.ensures).1 in
-    let e2 : to_z w64 (of_z w64 c.in-ok-current-cost-2.field-0) ≡ cost_up_to ns (nat_abs x.actual) = to_z-of_z w64 _ f2 ∙ (cost-passed ns c.output.result (nat_abs x.actual) _ c.output.ensures c.in-ok-current-cost-2.ensures).1 in
-    let e3 : to_z w64 (of_z w64 c.in-ok-current-cost-3.field-0) ≡ cost_up_to ns (economic_point ns x) = to_z-of_z w64 _ f3 ∙ (cost-passed ns c.point.result (economic_point ns x) _ c.point.ensures c.in-ok-current-cost-3.ensures).1 in
+    let t = checked-interval cs ns x c.in_ok-check.ensures in
+    let f0 : SFits w64 c.in_ok-committed_cost.field-0 = search rules in
+    let f1 : SFits w64 c.in_ok-current_cost.field-0 = search rules in
+    let f2 : SFits w64 c.in_ok-current_cost-2.field-0 = search rules in
+    let f3 : SFits w64 c.in_ok-current_cost-3.field-0 = search rules in
+    let e0 : to_z w64 (of_z w64 c.in_ok-committed_cost.field-0) ≡ cost_up_to cs (held_output x) = to_z-of_z w64 _ f0 ∙ (cost-passed cs c.held.result (held_output x) _ c.held.ensures c.in_ok-committed_cost.ensures).1 in
+    let e1 : to_z w64 (of_z w64 c.in_ok-current_cost.field-0) ≡ cost_up_to ns (held_output x) = to_z-of_z w64 _ f1 ∙ (cost-passed ns c.held-2.result (held_output x) _ c.held-2.ensures c.in_ok-current_cost.ensures).1 in
+    let e2 : to_z w64 (of_z w64 c.in_ok-current_cost-2.field-0) ≡ cost_up_to ns (nat_abs x.actual) = to_z-of_z w64 _ f2 ∙ (cost-passed ns c.output.result (nat_abs x.actual) _ c.output.ensures c.in_ok-current_cost-2.ensures).1 in
+    let e3 : to_z w64 (of_z w64 c.in_ok-current_cost-3.field-0) ≡ cost_up_to ns (economic_point ns x) = to_z-of_z w64 _ f3 ∙ (cost-passed ns c.point.result (economic_point ns x) _ c.point.ensures c.in_ok-current_cost-3.ensures).1 in
     let whole = sym (ap (λ o. unless o (ruc_costs cs ns x)) (interval-taken cs ns x t)) in
     cc

@@ -7,22 +7,22 @@ use Rattle.market.specs.Intervals.{taken-interval, interval-decided, interval-bi
 use Rattle.market.specs.Refusing.{unless-err, unless-ok}
 use Rattle.market.proofs.ruc.RucMarketProcess.settle.Goals as goal
 
-pub returns-in-err-costs : goal.returns-in-err-costs
-returns-in-err-costs g c =
+pub returns-in_err-costs : goal.returns-in_err-costs
+returns-in_err-costs g c =
     let cs = g.C.OfferCurve.prices c.args.self.now.committed in
     let ns = g.N.OfferCurve.prices c.args.self.now.current in
     let x = c.args.step.now in
-    let e = err_from_is_err_and c.from-residual.result c.from-residual.ensures.1 in
-    let stop = unless-err (ruc_refusal cs ns x) (ruc_costs cs ns x) _ c.in-err-costs.ensures in
-    let v : c.from-residual.result ≡ ruc_meaning cs ns x = rw (e.1, e.2) (sym (ap (λ o. unless o (ruc_amounts cs ns x)) stop)) in
+    let e = err_from_is_err_and c.from_residual.result c.from_residual.ensures.1 in
+    let stop = unless-err (ruc_refusal cs ns x) (ruc_costs cs ns x) _ c.in_err-costs.ensures in
+    let v : c.from_residual.result ≡ ruc_meaning cs ns x = rw (e.1, e.2) (sym (ap (λ o. unless o (ruc_amounts cs ns x)) stop)) in
     record { value = v; taken = interval-decided cs ns x _ v }
 
-pub amounts-of-requires : goal.amounts-of-requires
-amounts-of-requires g c =
+pub amounts_of-requires : goal.amounts_of-requires
+amounts_of-requires g c =
     let cs = g.C.OfferCurve.prices c.args.self.now.committed in
     let ns = g.N.OfferCurve.prices c.args.self.now.current in
     let x = c.args.step.now in
-    let k = unless-ok (ruc_refusal cs ns x) (ruc_costs cs ns x) c.in-ok-costs.costs c.in-ok-costs.ensures in
+    let k = unless-ok (ruc_refusal cs ns x) (ruc_costs cs ns x) c.in_ok-costs.costs c.in_ok-costs.ensures in
     subst (λ z. Billable z x) (sym k.1) (interval-billable cs ns x (g.met.C.OfferCurve.lawful c.args.self.now.committed) (g.met.N.OfferCurve.lawful c.args.self.now.current) (taken-interval cs ns x k.0))
 
 pub returns : goal.returns
@@ -30,7 +30,7 @@ returns g c =
     let cs = g.C.OfferCurve.prices c.args.self.now.committed in
     let ns = g.N.OfferCurve.prices c.args.self.now.current in
     let x = c.args.step.now in
-    let k = unless-ok (ruc_refusal cs ns x) (ruc_costs cs ns x) c.in-ok-costs.costs c.in-ok-costs.ensures in
-    let amounts : c.amounts-of.result ≡ ruc_amounts cs ns x = c.amounts-of.ensures ∙ ap (λ z. ruc_amounts_of z x) k.1 in
-    let v : Ok c.amounts-of.result ≡ ruc_meaning cs ns x = ap Ok amounts ∙ sym (ap (λ o. unless o (ruc_amounts cs ns x)) k.0) in
+    let k = unless-ok (ruc_refusal cs ns x) (ruc_costs cs ns x) c.in_ok-costs.costs c.in_ok-costs.ensures in
+    let amounts : c.amounts_of.result ≡ ruc_amounts cs ns x = c.amounts_of.ensures ∙ ap (λ z. ruc_amounts_of z x) k.1 in
+    let v : Ok c.amounts_of.result ≡ ruc_meaning cs ns x = ap Ok amounts ∙ sym (ap (λ o. unless o (ruc_amounts cs ns x)) k.0) in
     record { value = v; taken = interval-decided cs ns x _ v }

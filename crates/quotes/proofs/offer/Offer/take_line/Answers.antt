@@ -1,4 +1,4 @@
-use Rattle.std.proofs.Common.{Some, Ok, Err, sym, ap, ◌∙◌}
+use Rattle.std.proofs.Common.{Ok, Err, sym, ap, ◌∙◌}
 use Rattle.std.proofs.lemmas.Result.{err_from_is_err_and}
 use Rattle.quotes.specs.Answers.{at_line, bind}
 use Rattle.quotes.specs.Lines.{item_of, words_of}

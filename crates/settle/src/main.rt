@@ -6,6 +6,7 @@ mod report;
 
 use quotes::{price_offer, read_offer};
 use report::Report;
+use std::process::ExitCode;
 
 fn input_lines(rt: &HostRuntime) -> anyhow::Result<Vec<String>> {
     let heap = rt.alloc();
@@ -29,10 +30,12 @@ fn settle(rt: &HostRuntime) -> anyhow::Result<()> {
     Ok(())
 }
 
-fn main(rt: HostRuntime) -> anyhow::Result<()> {
-    let settled = settle(&rt);
-    if let Err(fault) = &settled {
-        let _ = eprintln!(rt; "{fault}");
+fn main(rt: HostRuntime) -> ExitCode {
+    match settle(&rt) {
+        Ok(()) => ExitCode::SUCCESS,
+        Err(fault) => {
+            let _ = eprintln!(rt; "{fault}");
+            ExitCode::FAILURE
+        }
     }
-    settled
 }

@@ -2,6 +2,7 @@
 
 use super::support::*;
 use offers::CurveRefusal;
+use std::test::Fail;
 
 #[test]
 fn numbers_of_blocks(rt: HostRuntime) -> Result<(), Fail> {

@@ -3,6 +3,7 @@
 use super::support::*;
 use offers::{Adder, BlockCurve, Cap};
 use std::alloc::Global;
+use std::test::Fail;
 
 fn level(heap: Global, price: i64) -> Result<BlockCurve, Fail> {
     match curve_of(heap, &[(10, price)])? {

@@ -6,6 +6,7 @@ use super::support::*;
 use market::{DayAhead, DayAheadRecord, Figures, MarketProcess, Ruc, RucRecord};
 use offers::{BlockCurve, Cap};
 use std::process::Abort;
+use std::test::Fail;
 
 // What a process tells of itself is what its constants say.
 fn check_figures<P: MarketProcess>(

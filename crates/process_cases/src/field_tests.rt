@@ -2,6 +2,7 @@
 
 use super::support::*;
 use market::{DayAhead, MarketProcess, ProcessRefusal, Ruc};
+use std::test::Fail;
 
 // Field, lowest and highest number.
 const HOUR_FIELDS: [(u64, i64, i64); 5] = [

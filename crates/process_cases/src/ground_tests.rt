@@ -5,6 +5,7 @@ use market::{MarketProcess, Ruc, RucRecord};
 use offers::{Adder, BlockCurve};
 use std::alloc::Global;
 use std::process::Abort;
+use std::test::Fail;
 
 // Minima 100, maximum 200, output 150 at its setpoint, tolerance 10, price 2,495.
 const STEADY: RucRecord = RucRecord {

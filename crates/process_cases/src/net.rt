@@ -16,7 +16,7 @@ fn net(amounts: Amounts) -> i64
 
 // What a step costs beyond what it earns and what is disallowed, in ticks.
 pub fn net_of<P: MarketProcess>(process: &P, step: &P::Record) -> Result<i64, ProcessRefusal>
-    ensures { result ≡ then (meaning process.now step.now) net_of }
+    ensures { result ≡ then (P.meaning process.now step.now) net_of }
 {
     let amounts = process.settle(step)?;
     Ok(net(amounts))

@@ -8,10 +8,10 @@ use Rattle.process_cases.proofs.net.net_of.Goals as goal
 pub net-requires : goal.net-requires
 net-requires g c =
     let p = g.met.P.MarketProcess in
-    let b = bounded-amounts _ _ c.in-ok-amounts.amounts (p.bounded c.args.process.now c.args.step.now) c.in-ok-amounts.ensures in
-    amounts-of-an-hour g.P.MarketProcess.figures c.in-ok-amounts.amounts p.lawful b
+    let b = bounded-amounts _ _ c.in_ok-amounts.amounts (p.bounded c.args.process.now c.args.step.now) c.in_ok-amounts.ensures in
+    amounts-of-an-hour g.P.MarketProcess.figures c.in_ok-amounts.amounts p.lawful b
 
 pub returns : goal.returns
 returns g c =
     let f : SFits w64 c.net.result = search rules in
-    ap Ok (to_z-of_z w64 c.net.result f ∙ c.net.ensures) ∙ ap (λ r. then r net_of) c.in-ok-amounts.ensures
+    ap Ok (to_z-of_z w64 c.net.result f ∙ c.net.ensures) ∙ ap (λ r. then r net_of) c.in_ok-amounts.ensures

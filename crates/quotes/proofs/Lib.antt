@@ -1,3 +1,4 @@
+pub mod EachLoop
 pub mod Ends
 pub mod Faulting
 pub mod QuoteLoop
@@ -5,3 +6,5 @@ pub mod Readings
 pub mod LineLoop
 pub mod Sequences
 pub mod Splits
+pub mod UnitLoop
+pub mod UnitSequences

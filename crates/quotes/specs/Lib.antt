@@ -2,4 +2,8 @@ pub mod Answers
 pub mod Lines
 pub mod Offers
 pub mod Quotes
+pub mod Records
 pub mod Sentences
+pub mod UnitAnswers
+pub mod UnitLines
+pub mod Units

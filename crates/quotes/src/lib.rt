@@ -6,7 +6,13 @@ mod fault;
 mod lines;
 mod offer;
 mod pricing;
+mod records;
+mod unit;
+mod unit_fault;
+mod unit_lines;
 
 pub use fault::{LineFault, OfferFault};
 pub use offer::{Offer, Pile, read_offer};
-pub use pricing::{Dispatch, Point, Quote, price_offer};
+pub use pricing::{Dispatch, Point, Quote, block_curve, price_offer};
+pub use unit::{Unit, read_unit};
+pub use unit_fault::UnitFault;

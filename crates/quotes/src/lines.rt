@@ -17,7 +17,7 @@ pub enum Item {
     Market(i64),
 }
 
-fn words(heap: Global, text: &str) -> Result<Vec<&str>, AllocError>
+pub(crate) fn words(heap: Global, text: &str) -> Result<Vec<&str>, AllocError>
     ensures { IfOk result (λ v. map (λ x. x.now) v.items ≡ words_of text.now) }
 {
     let mut found = Vec::new(heap);
@@ -29,7 +29,7 @@ fn words(heap: Global, text: &str) -> Result<Vec<&str>, AllocError>
     Ok(found)
 }
 
-fn number(word: &str) -> Result<i64, LineFault>
+pub(crate) fn number(word: &str) -> Result<i64, LineFault>
     ensures { result ≡ number_of word.now }
 {
     match word.parse::<i64>() {
@@ -68,7 +68,7 @@ fn block_of(words: &[&str]) -> Result<Block, LineFault>
     }
 }
 
-fn item_from(kind: &str, words: &[&str]) -> Result<Item, LineFault>
+pub(crate) fn item_from(kind: &str, words: &[&str]) -> Result<Item, LineFault>
     ensures { result ≡ item_from kind.now (map (λ x. x.now) words.now) }
 {
     match kind {

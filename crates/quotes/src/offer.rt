@@ -73,7 +73,7 @@ impl Offer {
     }
 
     // Takes the item of a line.
-    fn take(&mut self, number: u64, item: Item) -> Result<(), OfferFault>
+    pub(crate) fn take(&mut self, number: u64, item: Item) -> Result<(), OfferFault>
         ensures { Answers (λ _. asked self.new) result (at_line number (taking item (asked self.old))) }
     {
         match item {

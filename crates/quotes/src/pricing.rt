@@ -1,6 +1,7 @@
 // The prices of an offer: what its curve answers at the end of each block and at each market price.
 
 ghost use Rattle.std.specs.Prelude.{◌≡◌, map, Ok, vec_items};
+ghost use Rattle.offers.specs.Blocks.{blocks_asked};
 ghost use Rattle.offers.specs.Piles.{cap_asked, adder_asked};
 ghost use Rattle.quotes.specs.Answers.{Answers, bind, as_refused};
 ghost use Rattle.quotes.specs.Offers.{asked};
@@ -165,12 +166,19 @@ fn block_ends(heap: Global, curve: &BlockCurve) -> Result<Vec<u64>, OfferFault>
     Ok(ends)
 }
 
+// The curve of an offer's blocks, with nothing on them.
+pub fn block_curve(heap: Global, offer: &Offer) -> Result<BlockCurve, OfferFault>
+    ensures { Answers (λ c. c.blocks.items) result (as_refused (blocks_asked (asked offer.now).blocks)) }
+{
+    let blocks = Vec::from_slice(heap, offer.blocks.as_slice())?;
+    Ok(BlockCurve::new(blocks)?)
+}
+
 // The prices of an offer at the end of each block and at its market prices, or why it is refused.
 pub fn price_offer(heap: Global, offer: &Offer) -> Result<Quote, OfferFault>
     ensures { Answers quoted result (as_refused (settled (asked offer.now))) }
 {
-    let blocks = Vec::from_slice(heap, offer.blocks.as_slice())?;
-    let curve = BlockCurve::new(blocks)?;
+    let curve = block_curve(heap, offer)?;
     let ends = block_ends(heap, &curve)?;
     quote_pile(
         heap,

@@ -18,7 +18,7 @@ fn hour_settled<C: OfferCurve>(
     process: &DayAhead<C>,
     hour: Option<DayAheadRecord>,
 ) -> Option<Result<Amounts, ProcessRefusal>>
-    ensures { result ≡ answered (day_ahead_meaning (prices process.now.curve)) hour }
+    ensures { result ≡ answered (day_ahead_meaning (C.prices process.now.curve)) hour }
 {
     match hour {
         Some(step) => Some(process.settle(&step)),
@@ -100,7 +100,7 @@ fn settle_current<C: OfferCurve + Drop>(
     committed: C,
     unit: &Unit,
 ) -> Result<Statement, OfferFault>
-    ensures { Answers (λ x. x) result (as_refused (settled_on (unit_asked unit.now) (prices committed))) }
+    ensures { Answers (λ x. x) result (as_refused (settled_on (unit_asked unit.now) (C.prices committed))) }
 {
     let offer = unit.current_offer();
     let curve = block_curve(heap, offer)?;
@@ -114,7 +114,7 @@ fn settle_committed_pile<C: OfferCurve + Drop>(
     pile: Pile,
     unit: &Unit,
 ) -> Result<Statement, OfferFault>
-    ensures { Answers (λ x. x) result (as_refused (bind (piled pile (prices curve)) (settled_on (unit_asked unit.now)))) }
+    ensures { Answers (λ x. x) result (as_refused (bind (piled pile (C.prices curve)) (settled_on (unit_asked unit.now)))) }
 {
     match pile {
         Pile::Bare => settle_current(heap, curve, unit),

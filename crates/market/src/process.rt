@@ -26,7 +26,7 @@ pub trait MarketProcess {
 
     ghost meaning: { Self → Self.Record → Result Amounts ProcessRefusal };
 
-    // The four figures that the constants repeat: a contract can name this answer, and no constant.
+    // The four figures that the constants repeat: contracts and generic code go by this answer.
     fn figures() -> Figures
         ensures { result ≡ figures };
 

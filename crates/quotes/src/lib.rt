@@ -1,4 +1,5 @@
-// An energy offer as text, and its quote: prices and costs along its curve, and the tenths that run at market prices.
+// An energy offer as text, and its quote: prices and costs along its curve, and the tenths that run at market prices. A unit
+// as text: its offers, and the records of its market steps.
 
 #![tactic(auto)]
 

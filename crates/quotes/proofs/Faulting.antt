@@ -1,5 +1,5 @@
 -- A fault that one step hands to the next.
-use Rattle.std.proofs.Common.{◌≡◌, ℕ, Ok, Err, Result, arith}
+use Rattle.std.proofs.Common.{◌≡◌, ℕ, Ok, Err, Result, refl, ap, ◌∙◌, arith}
 use Rattle.offers.specs.declared.refusal.CurveRefusal.{CurveRefusal}
 use Rattle.quotes.specs.declared.fault.LineFault.{LineFault}
 use Rattle.quotes.specs.declared.fault.OfferFault.{OfferFault}
@@ -29,6 +29,9 @@ pub refused-ok : {X : Type 0} (r : Result X CurveRefusal) (x : X) → as_refused
 refused-ok (Ok y) x e = cc
 refused-ok (Err f) x e = absurd (let z : ◌≡◌ {A = ℕ} 0 1 = cc in omega arith)
 
+pub refused-on : {X Y : Type 0} (r : Result X CurveRefusal) (next : Result Y CurveRefusal) (f : OfferFault) → ((refusal : CurveRefusal) → r ≡ Err refusal → next ≡ Err refusal) → as_refused r ≡ Err f → as_refused next ≡ Err f
+refused-on (Ok y) next f pass e = absurd (let z : ◌≡◌ {A = ℕ} 0 1 = cc in omega arith)
+refused-on (Err refusal) next f pass e = let same : Refused refusal ≡ f = cc in ap as_refused (pass refusal refl) ∙ ap Err same
+
 pub refused-fault : {X Y : Type 0} (r : Result X CurveRefusal) (next : X → Result Y CurveRefusal) (f : OfferFault) → as_refused r ≡ Err f → as_refused (bind r next) ≡ Err f
-refused-fault (Ok y) next f e = absurd (let z : ◌≡◌ {A = ℕ} 0 1 = cc in omega arith)
-refused-fault (Err g) next f e = cc
+refused-fault r next f = refused-on r (bind r next) f (λ refusal e. ap (λ s. bind s next) e)

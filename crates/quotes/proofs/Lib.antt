@@ -6,5 +6,6 @@ pub mod Readings
 pub mod LineLoop
 pub mod Sequences
 pub mod Splits
-pub mod UnitLoop
+pub mod Readers
+pub mod UnitFaulting
 pub mod UnitSequences

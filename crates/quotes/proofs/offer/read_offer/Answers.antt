@@ -3,6 +3,7 @@ use Rattle.std.proofs.lemmas.Result.{err_from_is_err_and}
 use Rattle.quotes.specs.Offers.{asked, offer_read}
 use Rattle.quotes.proofs.Faulting.{faults-on, answers-err}
 use Rattle.quotes.proofs.LineLoop.{one_more, stops, no_more}
+use Rattle.quotes.proofs.Readers.{of_an_offer}
 use Rattle.quotes.proofs.offer.read_offer.Goals as goal
 
 pub loop-i-init : goal.loop-i-init
@@ -13,15 +14,15 @@ returns-in_err-take_line c =
     let p = err_from_is_err_and c.from_residual.result c.from_residual.ensures.1 in
     answers-err _ _ c.in_err-take_line.field-0.0 _ (p.1 ∙ ap Err p.2)
     (faults-on c.in_err-take_line.field-0.0 _ _
-    (stops string_bytes c.args.lines.now c.loop-i.i c.index-lines-i.result c.as_str.result.now (asked c.loop-i.offer) _
+    (stops of_an_offer string_bytes c.args.lines.now c.loop-i.i c.index-lines-i.result c.as_str.result.now (asked c.loop-i.offer) _
     (omega arith) c.index-lines-i.is c.as_str.ensures.value c.loop-i.invariant)
     c.in_err-take_line.ensures)
 
 pub loop-i-preserved : goal.loop-i-preserved
 loop-i-preserved c =
-    one_more string_bytes c.args.lines.now c.loop-i.i c.index-lines-i.result c.as_str.result.now (asked c.loop-i.offer) _
+    one_more of_an_offer string_bytes c.args.lines.now c.loop-i.i c.index-lines-i.result c.as_str.result.now (asked c.loop-i.offer) _
     (omega arith) c.index-lines-i.is c.as_str.ensures.value c.loop-i.invariant
     (asked c.take_line.new.self) c.in_ok-take_line.ensures
 
 pub returns : goal.returns
-returns c = no_more string_bytes c.args.lines.now c.loop-i.i (asked c.loop-i.offer) _ (omega arith) c.loop-i.invariant
+returns c = no_more of_an_offer string_bytes c.args.lines.now c.loop-i.i (asked c.loop-i.offer) _ (omega arith) c.loop-i.invariant

@@ -2,7 +2,8 @@ use Rattle.std.proofs.Common.{Err, vec_items, ap, ◌∙◌, arith}
 use Rattle.std.proofs.lemmas.Result.{err_from_is_err_and}
 use Rattle.quotes.specs.Quotes.{points_at}
 use Rattle.quotes.proofs.Faulting.{faults-on, answers-err}
-use Rattle.quotes.proofs.QuoteLoop.{none_yet, one_more, stops, all-points}
+use Rattle.quotes.proofs.EachLoop.{none_yet}
+use Rattle.quotes.proofs.QuoteLoop.{one_more, stops, all-points}
 use Rattle.quotes.proofs.pricing.points_at.Goals as goal
 
 pub loop-tenth-init : goal.loop-tenth-init

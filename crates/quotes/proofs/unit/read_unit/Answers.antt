@@ -1,7 +1,9 @@
 use Rattle.std.proofs.Common.{map, Err, string_bytes, ap, ◌∙◌, arith}
 use Rattle.std.proofs.lemmas.Result.{err_from_is_err_and}
 use Rattle.quotes.specs.Units.{unit_asked, unit_read}
-use Rattle.quotes.proofs.UnitLoop.{one_more, stops, no_more, unit_faults-on, unit_answers-err}
+use Rattle.quotes.proofs.LineLoop.{one_more, stops, no_more}
+use Rattle.quotes.proofs.Readers.{of_a_unit}
+use Rattle.quotes.proofs.UnitFaulting.{unit_faults-on, unit_answers-err}
 use Rattle.quotes.proofs.unit.read_unit.Goals as goal
 
 pub loop-i-init : goal.loop-i-init
@@ -12,15 +14,15 @@ returns-in_err-take_line c =
     let p = err_from_is_err_and c.from_residual.result c.from_residual.ensures.1 in
     unit_answers-err _ _ c.in_err-take_line.field-0.0 _ (p.1 ∙ ap Err p.2)
     (unit_faults-on c.in_err-take_line.field-0.0 _ _
-    (stops string_bytes c.args.lines.now c.loop-i.i c.index-lines-i.result c.as_str.result.now (unit_asked c.loop-i.unit) _
+    (stops of_a_unit string_bytes c.args.lines.now c.loop-i.i c.index-lines-i.result c.as_str.result.now (unit_asked c.loop-i.unit) _
     (omega arith) c.index-lines-i.is c.as_str.ensures.value c.loop-i.invariant)
     c.in_err-take_line.ensures)
 
 pub loop-i-preserved : goal.loop-i-preserved
 loop-i-preserved c =
-    one_more string_bytes c.args.lines.now c.loop-i.i c.index-lines-i.result c.as_str.result.now (unit_asked c.loop-i.unit) _
+    one_more of_a_unit string_bytes c.args.lines.now c.loop-i.i c.index-lines-i.result c.as_str.result.now (unit_asked c.loop-i.unit) _
     (omega arith) c.index-lines-i.is c.as_str.ensures.value c.loop-i.invariant
     (unit_asked c.take_line.new.self) c.in_ok-take_line.ensures
 
 pub returns : goal.returns
-returns c = no_more string_bytes c.args.lines.now c.loop-i.i (unit_asked c.loop-i.unit) _ (omega arith) c.loop-i.invariant
+returns c = no_more of_a_unit string_bytes c.args.lines.now c.loop-i.i (unit_asked c.loop-i.unit) _ (omega arith) c.loop-i.invariant

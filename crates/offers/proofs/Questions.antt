@@ -9,7 +9,8 @@ use Rattle.std.proofs.lemmas.Bool.Decides.{nat_tests}
 use Rattle.std.specs.Int.{int_min, int_max}
 use Rattle.offers.specs.declared.refusal.CurveRefusal.{CurveRefusal}
 use Rattle.offers.specs.declared.refusal.CurveRefusal.TheVariants.{NoSuchTenth, AdderOutOfRange}
-use Rattle.offers.specs.Prices.{InRange, in_range, lowest_price, highest_price, Rising, Lawful, total, up_to, price_of, cost_of, meant}
+use Rattle.offers.specs.Prices.{InRange, in_range, lowest_price, highest_price, Rising, Lawful, total, up_to, price_of, cost_of}
+use Rattle.offers.specs.Answers.{then}
 use Rattle.offers.specs.Bounds.{Amount, Difference}
 use Rattle.offers.specs.Piles.{capped, clamped, raised, all_keep, adder_asked}
 use Rattle.offers.specs.Sums.{near_fits, total-near, product-amount}
@@ -17,10 +18,10 @@ use Rattle.offers.specs.Rising.{rises-rising, up_to-mono}
 use Rattle.offers.specs.PilesLemmas.{total-capped, total-raised, last_of, last-get_or, keeps-by-ends, raised-kept}
 
 -- the price of a tenth, after each price is changed
-price-map : (m : ℤ → ℤ) (ps : List ℤ) (t : ℕ) → meant m (price_of ps t) ≡ price_of (map m ps) t
+price-map : (m : ℤ → ℤ) (ps : List ℤ) (t : ℕ) → then (price_of ps t) m ≡ price_of (map m ps) t
 price-map m ps t = go (leb 1 t && leb t (length ps)) refl
   where
-    go : (b : Bool) → (leb 1 t && leb t (length ps)) ≡ b → meant m (cond b (Ok (get_or ps (t - 1) (pos 0))) (Err (NoSuchTenth t))) ≡ price_of (map m ps) t
+    go : (b : Bool) → (leb 1 t && leb t (length ps)) ≡ b → then (cond b (Ok (get_or ps (t - 1) (pos 0))) (Err (NoSuchTenth t))) m ≡ price_of (map m ps) t
     go true e =
         let both = and_parts (leb 1 t) (leb t (length ps)) e in
         let low = leb-true 1 t both.0 in
@@ -35,10 +36,10 @@ price-map m ps t = go (leb 1 t && leb t (length ps)) refl
         rw test
 
 pub price-refused : (m : ℤ → ℤ) (ps : List ℤ) (t : ℕ) (e : CurveRefusal) → Err e ≡ price_of ps t → Err e ≡ price_of (map m ps) t
-price-refused m ps t e h = ap (meant m) h ∙ price-map m ps t
+price-refused m ps t e h = ap (λ r. then r m) h ∙ price-map m ps t
 
 pub price-changed : (m : ℤ → ℤ) (ps : List ℤ) (t : ℕ) (p r : ℤ) → r ≡ m p → Ok p ≡ price_of ps t → Ok r ≡ price_of (map m ps) t
-price-changed m ps t p r is h = ap Ok is ∙ ap (meant m) h ∙ price-map m ps t
+price-changed m ps t p r is h = ap Ok is ∙ ap (λ r. then r m) h ∙ price-map m ps t
 
 price-first : (p : ℤ) (ps : List ℤ) → price_of (p ∷ ps) 1 ≡ Ok p
 price-first p ps = let t : leb 1 (suc (length ps)) ≡ true = grind (arith, nat_tests) in rw t

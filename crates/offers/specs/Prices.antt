@@ -59,13 +59,3 @@ cost_of ps tenths = cond (nat_le tenths (length ps)) (Ok (total (take tenths ps)
 
 abbrev pub count_of : List ℤ → ℤ → ℕ
 count_of ps price = up_to price ps
-
--- What a made curve means, or the refusal of the make.
-abbrev pub meant : {C M : Type 0} → (C → M) → Result C CurveRefusal → Result M CurveRefusal
-meant means (Ok c) = Ok (means c)
-meant means (Err refusal) = Err refusal
-
--- What a made curve answers, or the refusal of the make.
-abbrev pub answered : {M X : Type 0} → (M → Result X CurveRefusal) → Result M CurveRefusal → Result X CurveRefusal
-answered answer (Ok made) = answer made
-answered answer (Err refusal) = Err refusal

@@ -1,4 +1,4 @@
--- The refusals of the curve layer: number, layer and place of each.
+-- What a refusal tells, and the refusals of the curve layer: number, layer and place of each.
 use Rattle.std.specs.Prelude.{ℕ, List, ◌++◌, codes, decimal}
 use Rattle.offers.specs.declared.refusal.Layer.{Layer}
 use Rattle.offers.specs.declared.refusal.Layer.TheVariants.{Curve, Process, Book}
@@ -14,15 +14,15 @@ pub record Told : Type 0 where
 abbrev at : ℕ → ℕ → Told
 at n p = record { number = n; layer = Curve; place = p }
 
-abbrev pub told : CurveRefusal → Told
-told BlockCount = at 10 0
-told (EmptyBlock block) = at 10 block
-told (TooWide block) = at 10 block
-told (PriceOutOfRange block) = at 11 block
-told CapOutOfRange = at 11 0
-told AdderOutOfRange = at 11 0
-told (PriceFalls block) = at 12 block
-told (NoSuchTenth tenth) = at 13 tenth
+abbrev pub curve_told : CurveRefusal → Told
+curve_told BlockCount = at 10 0
+curve_told (EmptyBlock block) = at 10 block
+curve_told (TooWide block) = at 10 block
+curve_told (PriceOutOfRange block) = at 11 block
+curve_told CapOutOfRange = at 11 0
+curve_told AdderOutOfRange = at 11 0
+curve_told (PriceFalls block) = at 12 block
+curve_told (NoSuchTenth tenth) = at 13 tenth
 
 abbrev pub layer_name : Layer → List ℕ
 layer_name Curve = codes "curve"

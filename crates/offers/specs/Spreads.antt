@@ -1,19 +1,21 @@
 -- What the blocks of an offer give, block by block.
-use Rattle.std.specs.Prelude.{◌≡◌, ℕ, zero, suc, ◌+◌, ◌-◌, ◌*◌, ◌<◌, ◌≤◌, min, Bool, true, false, cond, ◌&&◌, leb, List, [], ◌∷◌, ◌++◌, length, get_or, take, drop, replicate, ℤ, pos, ◌+ℤ◌, ◌*ℤ◌, ◌≤ℤ◌, is_some, Some, None, Ok, Err, Option, Result, FitsSigned, int_le, int_lt, nat_eq, nat_le, nat_lt, slice_index_or, refl}
+use Rattle.std.specs.Prelude.{◌≡◌, ℕ, zero, suc, ◌+◌, ◌-◌, ◌*◌, ◌<◌, ◌≤◌, min, Bool, true, false, cond, ◌&&◌, leb, List, [], ◌∷◌, ◌++◌, length, get_or, take, drop, replicate, ℤ, pos, ◌+ℤ◌, ◌*ℤ◌, ◌≤ℤ◌, is_some, Some, None, Ok, Err, Option, Result, FitsSigned, int_le, int_lt, nat_eq, nat_le, nat_lt, slice_index_or, sum_by, refl}
 use Rattle.std.proofs.Common.{sym, ap, subst, ◌∙◌, arith, to_z, of_z}
 use Rattle.std.proofs.Math.IntN.{zero-*ℤ}
 use Rattle.std.specs.Int.{w64}
 use Rattle.std.proofs.ByRecursion.{All-append, All-get_or}
 use Rattle.std.proofs.lemmas.List.{length-append, length-replicate, get_or_append_left, get_or-append_right, get_or-replicate, at_drop_more}
+use Rattle.std.proofs.lemmas.List.Sums.{sum_by-cons}
 use Rattle.std.proofs.lemmas.Int.{ints}
 use Rattle.std.proofs.lemmas.Bool.Decides.{nat_tests}
 use Rattle.std.specs.List.{AllByRecursion}
 use Rattle.offers.specs.declared.block.Block.{Block}
 use Rattle.offers.specs.declared.refusal.CurveRefusal.{CurveRefusal}
 use Rattle.offers.specs.declared.refusal.CurveRefusal.TheVariants.{NoSuchTenth}
+use Rattle.offers.specs.Answers.{or_else, unless}
 use Rattle.offers.specs.Prices.{InRange, in_range, lowest_price, highest_top, Rises, Lawful, total, up_to, price_of, cost_of}
 use Rattle.offers.specs.Bounds.{Amount, Difference, Kept}
-use Rattle.offers.specs.Blocks.{spread, block_fault, or_else, fault_from, fault, unless, blocks_asked, Offered}
+use Rattle.offers.specs.Blocks.{spread, block_fault, fault_from, fault, blocks_asked, tenths_up_to, Offered}
 use Rattle.offers.specs.Rising.{rises-from, rising-rises, rises-rising}
 use Rattle.offers.specs.Sums.{Near, near_fits, product-amount, times-suc, up_to-append, up_to-replicate}
 
@@ -29,6 +31,10 @@ up_to-spread q b bs =
     let w = up_to-replicate q b.width b.price in
     omega arith
 
+pub up_to-blocks : (q : ℤ) (bs : List Block) → up_to q (spread bs) ≡ sum_by (tenths_up_to q) bs
+up_to-blocks q [] = refl
+up_to-blocks q (b ∷ bs) = up_to-spread q b bs ∙ ap (λ n. tenths_up_to q b + n) (up_to-blocks q bs) ∙ sym (sum_by-cons (tenths_up_to q) b bs)
+
 -- the block at a place, and the blocks after it
 abbrev pub block_at : List Block → ℕ → Block
 block_at bs i = slice_index_or bs i (record { width = 0; price = pos 0 })
@@ -36,9 +42,6 @@ block_at bs i = slice_index_or bs i (record { width = 0; price = pos 0 })
 module _ (bs : List Block) (i : ℕ) (h : i < length bs) where
   pub length_from : length (spread (drop i bs)) ≡ (block_at bs i).width + length (spread (drop (i + 1) bs))
   length_from = at_drop_more (λ xs. length (spread xs)) bs i (block_at [] 0) h ∙ length-spread (block_at bs i) (drop (i + 1) bs)
-
-  pub up_to-from : (q : ℤ) → up_to q (spread (drop i bs)) ≡ cond (int_le (block_at bs i).price q) (block_at bs i).width 0 + up_to q (spread (drop (i + 1) bs))
-  up_to-from q = at_drop_more (λ xs. up_to q (spread xs)) bs i (block_at [] 0) h ∙ up_to-spread q (block_at bs i) (drop (i + 1) bs)
 
 -- ---- blocks without fault
 

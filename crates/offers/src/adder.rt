@@ -1,13 +1,15 @@
 // An adder over a lower curve.
 
 ghost use Rattle.std.specs.Prelude.{◌≡◌, ◌-◌, ◌≤◌, ◌+ℤ◌, ◌-ℤ◌};
-ghost use Rattle.offers.specs.Prices.{lowest_price, highest_price, in_range, meant};
+ghost use Rattle.offers.specs.Prices.{lowest_price, highest_price, in_range};
+ghost use Rattle.offers.specs.Answers.{then};
 ghost use Rattle.offers.specs.Bounds.{Amount, Difference};
 ghost use Rattle.offers.specs.Piles.{raised, adder_asked};
 ghost use Rattle.offers.specs.PilesLemmas.{lawful-raised};
 
 use super::block::{Block, cost_of_all};
 use super::curve::{HIGHEST_PRICE, LOWEST_PRICE, OfferCurve};
+use super::over::Over;
 use super::refusal::CurveRefusal;
 
 // A curve with a number added to every price; a sum out of range stands at the nearer limit.
@@ -30,7 +32,7 @@ fn keeps(price: i64, added: i64) -> bool
 impl<C: OfferCurve + Drop> Adder<C> {
     // An adder over a curve, refused where it would take a price out of range.
     pub fn new(lower: C, added: i64) -> Result<Adder<C>, CurveRefusal>
-        ensures { meant (λ c. raised c.added (C.prices c.lower)) result ≡ adder_asked added (C.prices lower) }
+        ensures { then result (λ c. raised c.added (C.prices c.lower)) ≡ adder_asked added (C.prices lower) }
     {
         let first = lower.price(1)?;
         let last = lower.price(lower.top())?;
@@ -130,5 +132,13 @@ impl<C: OfferCurve> OfferCurve for Adder<C> {
         } else {
             self.lower.top()
         }
+    }
+}
+
+impl<C: OfferCurve + Drop> Over<C> for Adder<C> {
+    ghost asked = { adder_asked };
+
+    fn over(lower: C, added: i64) -> Result<Adder<C>, CurveRefusal> {
+        Adder::new(lower, added)
     }
 }

@@ -1,9 +1,10 @@
 // What a curve of blocks answers: each question takes one step a block.
 
-ghost use Rattle.std.specs.Prelude.{◌≡◌, ◌≤◌, min, length, is_ok, if◌then◌else◌, Decides, int_le, nat_le};
+ghost use Rattle.std.specs.Prelude.{◌≡◌, ◌≤◌, ◌<◌, ◌^◌, min, length, is_ok, Decides, nat_le, sum_by};
 ghost use Rattle.std.specs.List.{AllByRecursion};
-ghost use Rattle.offers.specs.Prices.{highest_top, meant, top_of, price_of, cost_of, count_of};
-ghost use Rattle.offers.specs.Blocks.{spread, fault, block_fault, unless, blocks_asked, Offered};
+ghost use Rattle.offers.specs.Prices.{highest_top, top_of, price_of, cost_of};
+ghost use Rattle.offers.specs.Blocks.{spread, fault, block_fault, blocks_asked, tenths_up_to, Offered};
+ghost use Rattle.offers.specs.Answers.{then, unless};
 ghost use Rattle.offers.specs.Bounds.{Kept};
 ghost use Rattle.offers.specs.Spreads.{lawful-spread};
 
@@ -41,12 +42,10 @@ fn checked_top(blocks: &[Block]) -> Result<u64, CurveRefusal>
     if blocks.is_empty() || blocks.len() > MOST_BLOCKS {
         return Err(CurveRefusal::BlockCount);
     }
-    let mut number = 0;
     let mut top = 0;
     let mut floor = LOWEST_PRICE;
-    for block in blocks {
-        number += 1;
-        if let Some(fault) = block_fault(number, top, floor, *block) {
+    for (i, block) in blocks.iter().enumerate() {
+        if let Some(fault) = block_fault(i as u64 + 1, top, floor, *block) {
             return Err(fault);
         }
         top += block.width;
@@ -108,27 +107,23 @@ fn cost_of(blocks: &[Block], tenths: u64) -> Result<i64, CurveRefusal>
 
 // How many tenths of a block are priced at this price or less.
 fn counted(block: Block, price: i64) -> u64
-    ensures { result ≡ (if int_le block.price price then block.width else 0) }
+    ensures { result ≡ tenths_up_to price block }
 {
     if block.price <= price { block.width } else { 0 }
 }
 
 fn count_of(blocks: &[Block], price: i64) -> u64
-    requires { length (spread blocks.now) ≤ highest_top }
-    ensures { result ≡ count_of (spread blocks.now) price }
+    requires { sum_by (tenths_up_to price) blocks.now < 2 ^ 64 }
+    ensures { result ≡ sum_by (tenths_up_to price) blocks.now }
 {
-    let mut count = 0;
-    for block in blocks {
-        count += counted(*block, price);
-    }
-    count
+    blocks.iter().map(|block| counted(*block, price)).sum()
 }
 
 impl BlockCurve {
     // A curve of these blocks, or their first fault: their number, then block by block an empty one, widths past the
     // highest top, a price out of range, and a price below the block before.
     pub fn new(blocks: Vec<Block>) -> Result<BlockCurve, CurveRefusal>
-        ensures made { meant (λ c. c.blocks.items) result ≡ blocks_asked blocks.items }
+        ensures made { then result (λ c. c.blocks.items) ≡ blocks_asked blocks.items }
         ensures taken { Decides (is_ok result) (Offered blocks.items) }
     {
         let top = checked_top(blocks.as_slice())?;

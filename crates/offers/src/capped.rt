@@ -2,12 +2,14 @@
 
 ghost use Rattle.std.specs.Prelude.{◌≡◌};
 ghost use Rattle.std.specs.Int.{int_min};
-ghost use Rattle.offers.specs.Prices.{InRange, meant};
+ghost use Rattle.offers.specs.Prices.{InRange};
+ghost use Rattle.offers.specs.Answers.{then};
 ghost use Rattle.offers.specs.Piles.{capped, cap_asked};
 ghost use Rattle.offers.specs.PilesLemmas.{lawful-capped};
 
 use super::block::{Block, cost_of_all};
 use super::curve::{HIGHEST_PRICE, LOWEST_PRICE, OfferCurve};
+use super::over::Over;
 use super::refusal::CurveRefusal;
 
 // A curve of which no price is above a limit.
@@ -27,7 +29,7 @@ fn at_most(price: i64, limit: i64) -> i64
 impl<C: OfferCurve + Drop> Cap<C> {
     // A cap over a curve, refused where its limit is no price.
     pub fn new(lower: C, limit: i64) -> Result<Cap<C>, CurveRefusal>
-        ensures { meant (λ c. capped c.limit (C.prices c.lower)) result ≡ cap_asked limit (C.prices lower) }
+        ensures { then result (λ c. capped c.limit (C.prices c.lower)) ≡ cap_asked limit (C.prices lower) }
     {
         if limit < LOWEST_PRICE || limit > HIGHEST_PRICE {
             return Err(CurveRefusal::CapOutOfRange);
@@ -69,5 +71,13 @@ impl<C: OfferCurve> OfferCurve for Cap<C> {
         } else {
             self.lower.top()
         }
+    }
+}
+
+impl<C: OfferCurve + Drop> Over<C> for Cap<C> {
+    ghost asked = { cap_asked };
+
+    fn over(lower: C, limit: i64) -> Result<Cap<C>, CurveRefusal> {
+        Cap::new(lower, limit)
     }
 }

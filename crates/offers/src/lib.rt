@@ -8,6 +8,7 @@ mod block_curve;
 mod blocks;
 mod capped;
 mod curve;
+mod over;
 mod priced;
 mod refusal;
 
@@ -16,5 +17,6 @@ pub use block::Block;
 pub use block_curve::BlockCurve;
 pub use capped::Cap;
 pub use curve::{HIGHEST_PRICE, HIGHEST_TOP, LOWEST_PRICE, OfferCurve};
-pub use priced::{price_of_blocks, price_under_adder, price_under_cap};
-pub use refusal::{CurveRefusal, Layer};
+pub use over::Over;
+pub use priced::{price_of_blocks, price_over};
+pub use refusal::{CurveRefusal, Layer, Refusal};

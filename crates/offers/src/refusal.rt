@@ -1,7 +1,7 @@
-// The refusals of the curve layer.
+// What every layer tells where it refuses, and the refusals of the curve layer.
 
 ghost use Rattle.std.specs.Prelude.{◌≡◌, Some};
-ghost use Rattle.offers.specs.Refusals.{told, sentence, layer_name};
+ghost use Rattle.offers.specs.Refusals.{Told, curve_told, sentence, layer_name};
 
 use std::fmt;
 
@@ -26,11 +26,26 @@ pub enum CurveRefusal {
     NoSuchTenth(u64),
 }
 
-impl CurveRefusal {
+// What a refusal tells, whichever layer it is of.
+pub trait Refusal {
+    ghost told: { Self → Told };
+
     // The number in the table of refusals.
-    pub fn number(&self) -> u8
-        ensures { result ≡ (told self.now).number }
-    {
+    fn number(&self) -> u8
+        ensures { result ≡ (told self.now).number };
+
+    fn layer(&self) -> Layer
+        ensures { result ≡ (told self.now).layer };
+
+    // What is at fault, by its number; 0 where there is but one.
+    fn place(&self) -> u64
+        ensures { result ≡ (told self.now).place };
+}
+
+impl Refusal for CurveRefusal {
+    ghost told = { curve_told };
+
+    fn number(&self) -> u8 {
         match *self {
             CurveRefusal::BlockCount | CurveRefusal::EmptyBlock(_) | CurveRefusal::TooWide(_) => 10,
             CurveRefusal::PriceOutOfRange(_)
@@ -41,16 +56,12 @@ impl CurveRefusal {
         }
     }
 
-    pub fn layer(&self) -> Layer
-        ensures { result ≡ (told self.now).layer }
-    {
+    fn layer(&self) -> Layer {
         Layer::Curve
     }
 
     // The block or the tenth at fault; 0 for a number of blocks, a cap or an adder.
-    pub fn place(&self) -> u64
-        ensures { result ≡ (told self.now).place }
-    {
+    fn place(&self) -> u64 {
         match *self {
             CurveRefusal::BlockCount
             | CurveRefusal::CapOutOfRange

@@ -2,7 +2,7 @@
 use Rattle.std.specs.Prelude.{ℕ, List, ◌++◌, codes, decimal}
 use Rattle.offers.specs.declared.refusal.CurveRefusal.TheVariants.{NoSuchTenth as NoTenthOfCurve}
 use Rattle.offers.specs.declared.refusal.Layer.TheVariants.{Process}
-use Rattle.offers.specs.Refusals.{Told, told as told_by_curve, sentence as sentence_of_curve}
+use Rattle.offers.specs.Refusals.{Told, curve_told as told_by_curve, sentence as sentence_of_curve}
 use Rattle.market.specs.declared.refusal.ProcessRefusal.{ProcessRefusal}
 use Rattle.market.specs.declared.refusal.ProcessRefusal.TheVariants.{FieldOutsideLimits, NoSuchTenth}
 

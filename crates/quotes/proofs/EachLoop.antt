@@ -1,7 +1,7 @@
 -- A loop that asks one thing after another, and stops at the first refusal.
 use Rattle.std.proofs.Common.{◌≡◌, ℕ, ◌+◌, ◌<◌, ◌≤◌, List, [], ◌∷◌, ◌++◌, map, length, get_or, drop, Ok, Err, Result, sym, refl, ap, ◌∙◌}
 use Rattle.std.proofs.lemmas.List.{append_assoc, append-nil, at_drop_more, at_drop_all}
-use Rattle.quotes.specs.Answers.{bind, then}
+use Rattle.offers.specs.Answers.{bind, then}
 use Rattle.quotes.specs.Records.{each}
 
 pub each_map : {W X Y E : Type 0} (f : X → Result Y E) (g : W → X) (ws : List W) → each f (map g ws) ≡ each (λ w. f (g w)) ws

@@ -4,7 +4,8 @@ use Rattle.std.proofs.lemmas.List.{append_assoc, append-nil, at_drop_more, at_dr
 use Rattle.std.proofs.lemmas.Bool.Decides.{nat_tests}
 use Rattle.offers.specs.declared.block.Block.{Block}
 use Rattle.offers.specs.declared.refusal.CurveRefusal.{CurveRefusal}
-use Rattle.offers.specs.Blocks.{fault, fault_from, block_fault, or_else}
+use Rattle.offers.specs.Answers.{or_else}
+use Rattle.offers.specs.Blocks.{fault, fault_from, block_fault}
 use Rattle.offers.specs.Prices.{lowest_price}
 use Rattle.quotes.specs.Quotes.{ends_from}
 

@@ -1,17 +1,16 @@
 -- A fault that one step hands to the next.
-use Rattle.std.proofs.Common.{◌≡◌, ℕ, Ok, Err, Result, refl, ap, ◌∙◌, arith}
+use Rattle.std.proofs.Common.{◌≡◌, ◌≢◌, ℕ, Ok, Err, Result, refl, ap, ◌∙◌, arith}
 use Rattle.offers.specs.declared.refusal.CurveRefusal.{CurveRefusal}
 use Rattle.quotes.specs.declared.fault.LineFault.{LineFault}
 use Rattle.quotes.specs.declared.fault.OfferFault.{OfferFault}
-use Rattle.quotes.specs.declared.fault.OfferFault.TheVariants.{Line, Refused, Memory}
-use Rattle.quotes.specs.Answers.{Answers, Faults, at_line, as_refused, bind}
+use Rattle.quotes.specs.declared.fault.OfferFault.TheVariants.{Refused}
+use Rattle.offers.specs.Answers.{bind}
+use Rattle.quotes.specs.Answers.{Answers, AnswersUnless, at_line, as_refused}
 
-pub faults-on : {X Y : Type 0} (fault : OfferFault) (due : Result X OfferFault) (next : Result Y OfferFault) → ((f : OfferFault) → due ≡ Err f → next ≡ Err f) → Faults fault due → Faults fault next
-faults-on (Line number f) due next pass h = pass _ h
-faults-on (Refused refusal) due next pass h = pass _ h
-faults-on Memory due next pass h = tt
+pub faults-on : {X Y E : Type 0} {lost : E} (fault : E) (due : Result X E) (next : Result Y E) → ((f : E) → due ≡ Err f → next ≡ Err f) → (fault ≢ lost → due ≡ Err fault) → fault ≢ lost → next ≡ Err fault
+faults-on fault due next pass h found = pass fault (h found)
 
-pub answers-err : {X Y : Type 0} (means : Y → X) (r : Result Y OfferFault) (fault : OfferFault) (due : Result X OfferFault) → r ≡ Err fault → Faults fault due → Answers means r due
+pub answers-err : {X Y E : Type 0} {lost : E} (means : Y → X) (r : Result Y E) (fault : E) (due : Result X E) → r ≡ Err fault → (fault ≢ lost → due ≡ Err fault) → AnswersUnless lost means r due
 answers-err means r fault due e h = rw e h
 
 pub answers_at : {X Y : Type 0} (means : Y → X) (r : Result Y OfferFault) (due next : Result X OfferFault) → due ≡ next → Answers means r due → Answers means r next

@@ -7,5 +7,4 @@ pub mod LineLoop
 pub mod Sequences
 pub mod Splits
 pub mod Readers
-pub mod UnitFaulting
 pub mod UnitSequences

@@ -1,7 +1,7 @@
 -- A loop that reads lines one after another, each by a step that may be at fault.
 use Rattle.std.proofs.Common.{◌≡◌, ℕ, ◌+◌, ◌<◌, ◌≤◌, List, [], ◌∷◌, map, length, get_or, drop, Ok, Err, Result, sym, ap, ◌∙◌}
 use Rattle.std.proofs.lemmas.List.{at_drop_more, at_drop_all}
-use Rattle.quotes.specs.Answers.{bind}
+use Rattle.offers.specs.Answers.{bind}
 
 -- What lines from a number on make: the step of the first, and then what the rest makes of it.
 pub record Reading {A F : Type 0} (step : ℕ → A → List ℕ → Result A F) (made : ℕ → A → List (List ℕ) → Result A F) : Type 0 where

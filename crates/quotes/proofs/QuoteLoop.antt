@@ -5,7 +5,8 @@ use Rattle.offers.specs.declared.refusal.CurveRefusal.{CurveRefusal}
 use Rattle.quotes.specs.declared.fault.OfferFault.{OfferFault}
 use Rattle.quotes.specs.declared.pricing.Dispatch.{Dispatch}
 use Rattle.quotes.specs.declared.pricing.Point.{Point}
-use Rattle.quotes.specs.Answers.{as_refused, then}
+use Rattle.offers.specs.Answers.{then}
+use Rattle.quotes.specs.Answers.{as_refused}
 use Rattle.quotes.specs.Quotes.{dispatch_at, point_at, points_at}
 use Rattle.quotes.proofs.EachLoop.{one_more as another, stops as stopped, all_asked}
 use Rattle.quotes.proofs.Faulting.{refused-ok, refused-on}

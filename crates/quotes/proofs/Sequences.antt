@@ -7,7 +7,7 @@ use Rattle.std.proofs.lemmas.Bool.{ne_eqb}
 use Rattle.std.proofs.lemmas.Bool.Decides.{not_from_Decides}
 use Rattle.quotes.specs.declared.fault.LineFault.{LineFault}
 use Rattle.quotes.specs.declared.fault.LineFault.TheVariants.{WordCount, UnknownItem}
-use Rattle.quotes.specs.Answers.{then}
+use Rattle.offers.specs.Answers.{then}
 use Rattle.quotes.specs.Lines.{number_of, width_of, only_number, block_of, item_from, item_of}
 
 abbrev pub texts : List (Bor (List ℕ)) → List (List ℕ)

@@ -7,7 +7,7 @@ use Rattle.quotes.specs.declared.fault.LineFault.{LineFault}
 use Rattle.quotes.specs.declared.fault.LineFault.TheVariants.{UnknownItem, WordCount, NotANumber}
 use Rattle.quotes.specs.declared.lines.Item.{Item}
 use Rattle.quotes.specs.declared.lines.Item.TheVariants.{Block as BlockItem, Adder as AdderItem, Cap as CapItem, Market as MarketItem}
-use Rattle.quotes.specs.Answers.{bind, then}
+use Rattle.offers.specs.Answers.{bind, then}
 
 -- A word that has no byte is none.
 abbrev pub ended : List ℕ → List (List ℕ) → List (List ℕ)

@@ -9,7 +9,8 @@ use Rattle.quotes.specs.declared.lines.Item.TheVariants.{Block as BlockItem, Add
 use Rattle.quotes.specs.declared.offer.Offer.{Offer}
 use Rattle.quotes.specs.declared.offer.Pile.{Pile}
 use Rattle.quotes.specs.declared.offer.Pile.TheVariants.{Bare, Cap, Adder, CapOverAdder, AdderOverCap}
-use Rattle.quotes.specs.Answers.{bind, then, at_line}
+use Rattle.offers.specs.Answers.{bind, then}
+use Rattle.quotes.specs.Answers.{at_line}
 use Rattle.quotes.specs.Lines.{item_of, words_of}
 
 -- The blocks, what lies on them, and the market prices that are asked about.

@@ -10,7 +10,7 @@ use Rattle.quotes.specs.declared.offer.Pile.TheVariants.{Bare, Cap, Adder, CapOv
 use Rattle.quotes.specs.declared.pricing.Point.{Point}
 use Rattle.quotes.specs.declared.pricing.Dispatch.{Dispatch}
 use Rattle.quotes.specs.declared.pricing.Quote.{Quote}
-use Rattle.quotes.specs.Answers.{bind, then}
+use Rattle.offers.specs.Answers.{bind, then}
 use Rattle.quotes.specs.Offers.{Asked}
 
 -- The price of a tenth and the cost of all tenths up to it.

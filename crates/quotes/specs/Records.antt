@@ -4,7 +4,7 @@ use Rattle.market.specs.declared.day_ahead.DayAheadRecord.{DayAheadRecord}
 use Rattle.market.specs.declared.ruc_record.RucRecord.{RucRecord}
 use Rattle.quotes.specs.declared.fault.LineFault.{LineFault}
 use Rattle.quotes.specs.declared.fault.LineFault.TheVariants.{WordCount}
-use Rattle.quotes.specs.Answers.{bind, then}
+use Rattle.offers.specs.Answers.{bind, then}
 use Rattle.quotes.specs.Lines.{number_of}
 
 -- The answer to each of a list, or the first refusal.

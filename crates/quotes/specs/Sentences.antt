@@ -1,6 +1,6 @@
 -- How a fault is reported.
 use Rattle.std.specs.Prelude.{ℕ, List, ◌++◌, codes, decimal}
-use Rattle.offers.specs.Refusals.{layer_name, sentence, told}
+use Rattle.offers.specs.Refusals.{layer_name, sentence, curve_told}
 use Rattle.quotes.specs.declared.fault.LineFault.{LineFault}
 use Rattle.quotes.specs.declared.fault.LineFault.TheVariants.{UnknownItem, WordCount, NotANumber, SecondAdder, SecondCap}
 use Rattle.quotes.specs.declared.fault.OfferFault.{OfferFault}
@@ -17,5 +17,5 @@ line_sentence SecondCap = codes "second cap"
 abbrev pub fault_sentence : OfferFault → List ℕ
 fault_sentence (Line number fault) = codes "line " ++ (decimal number ++ (codes ": " ++ line_sentence fault))
 fault_sentence (Refused refusal) =
-    codes "refused " ++ (decimal (told refusal).number ++ (codes " " ++ (layer_name (told refusal).layer ++ (codes " " ++ (decimal (told refusal).place ++ (codes ": " ++ sentence refusal))))))
+    codes "refused " ++ (decimal (curve_told refusal).number ++ (codes " " ++ (layer_name (curve_told refusal).layer ++ (codes " " ++ (decimal (curve_told refusal).place ++ (codes ": " ++ sentence refusal))))))
 fault_sentence Memory = codes "out of memory"

@@ -1,9 +1,10 @@
 -- What a reading of a unit answers, and how its faults are reported.
-use Rattle.std.specs.Prelude.{◌≡◌, ℕ, List, ◌++◌, Ok, Err, Result, codes, decimal}
+use Rattle.std.specs.Prelude.{ℕ, List, ◌++◌, Ok, Err, Result, codes, decimal}
 use Rattle.quotes.specs.declared.fault.OfferFault.{OfferFault}
-use Rattle.quotes.specs.declared.fault.OfferFault.TheVariants.{Line, Refused, Memory}
+use Rattle.quotes.specs.declared.fault.OfferFault.TheVariants.{Memory}
 use Rattle.quotes.specs.declared.unit_fault.UnitFault.{UnitFault}
 use Rattle.quotes.specs.declared.unit_fault.UnitFault.TheVariants.{Offer, SecondCurrent, SecondDayAhead, SecondRuc}
+use Rattle.quotes.specs.Answers.{AnswersUnless}
 use Rattle.quotes.specs.Sentences.{fault_sentence}
 
 -- A fault of an offer is one of the unit that it belongs to.
@@ -11,19 +12,9 @@ abbrev pub as_offer : {X : Type 0} → Result X OfferFault → Result X UnitFaul
 as_offer (Ok x) = Ok x
 as_offer (Err f) = Err (Offer f)
 
--- The fault is the one that is due, or memory ran out.
-abbrev pub UnitFaults : {X : Type 0} → UnitFault → Result X UnitFault → Type 0
-UnitFaults (Offer (Line number f)) due = due ≡ Err (Offer (Line number f))
-UnitFaults (Offer (Refused refusal)) due = due ≡ Err (Offer (Refused refusal))
-UnitFaults (Offer Memory) due = Unit {0}
-UnitFaults (SecondCurrent number) due = due ≡ Err (SecondCurrent number)
-UnitFaults (SecondDayAhead number) due = due ≡ Err (SecondDayAhead number)
-UnitFaults (SecondRuc number) due = due ≡ Err (SecondRuc number)
-
 -- The answer means what is due, or memory ran out.
 abbrev pub UnitAnswers : {X Y : Type 0} → (Y → X) → Result Y UnitFault → Result X UnitFault → Type 0
-UnitAnswers means (Ok y) due = due ≡ Ok (means y)
-UnitAnswers means (Err fault) due = UnitFaults fault due
+UnitAnswers = AnswersUnless (Offer Memory)
 
 -- A line is reported by its number.
 abbrev pub unit_sentence : UnitFault → List ℕ

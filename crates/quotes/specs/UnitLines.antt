@@ -5,7 +5,7 @@ use Rattle.quotes.specs.declared.fault.LineFault.{LineFault}
 use Rattle.quotes.specs.declared.fault.LineFault.TheVariants.{WordCount}
 use Rattle.quotes.specs.declared.unit_lines.UnitItem.{UnitItem}
 use Rattle.quotes.specs.declared.unit_lines.UnitItem.TheVariants.{Offer as OfferItem, Current as CurrentItem, DayAhead as DayAheadItem, Ruc as RucItem}
-use Rattle.quotes.specs.Answers.{then}
+use Rattle.offers.specs.Answers.{then}
 use Rattle.quotes.specs.Lines.{item_from}
 use Rattle.quotes.specs.Records.{day_ahead_of, ruc_of}
 

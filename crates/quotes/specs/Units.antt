@@ -10,7 +10,8 @@ use Rattle.quotes.specs.declared.unit_fault.UnitFault.{UnitFault}
 use Rattle.quotes.specs.declared.unit_fault.UnitFault.TheVariants.{SecondCurrent, SecondDayAhead, SecondRuc}
 use Rattle.quotes.specs.declared.unit_lines.UnitItem.{UnitItem}
 use Rattle.quotes.specs.declared.unit_lines.UnitItem.TheVariants.{Offer as OfferItem, Current as CurrentItem, DayAhead as DayAheadItem, Ruc as RucItem}
-use Rattle.quotes.specs.Answers.{at_line, bind, then}
+use Rattle.offers.specs.Answers.{bind, then}
+use Rattle.quotes.specs.Answers.{at_line}
 use Rattle.quotes.specs.Lines.{words_of}
 use Rattle.quotes.specs.Offers.{Asked, asked, nothing, taking}
 use Rattle.quotes.specs.UnitAnswers.{as_offer}

@@ -4,7 +4,7 @@ ghost use Rattle.std.specs.Prelude.{◌≡◌, Some};
 ghost use Rattle.quotes.specs.Sentences.{fault_sentence, line_sentence};
 ghost use Rattle.quotes.specs.declared.fault.OfferFault.TheVariants.{Memory, Refused as Denied};
 
-use offers::CurveRefusal;
+use offers::{CurveRefusal, Refusal};
 use std::alloc::{AllocError, AllocFailed};
 use std::error::Error;
 use std::fmt;

@@ -1,7 +1,8 @@
 // An offer, taken item by item from its lines.
 
 ghost use Rattle.std.specs.Prelude.{◌≡◌, map, string_bytes};
-ghost use Rattle.quotes.specs.Answers.{Answers, at_line, then};
+ghost use Rattle.offers.specs.Answers.{then};
+ghost use Rattle.quotes.specs.Answers.{Answers, at_line};
 ghost use Rattle.quotes.specs.Offers.{adder_laid, asked, cap_laid, laid, line_taken, nothing, offer_read, taking};
 
 use super::fault::{LineFault, OfferFault};

@@ -3,7 +3,8 @@
 ghost use Rattle.std.specs.Prelude.{◌≡◌, map, Ok, vec_items};
 ghost use Rattle.offers.specs.Blocks.{blocks_asked};
 ghost use Rattle.offers.specs.Piles.{cap_asked, adder_asked};
-ghost use Rattle.quotes.specs.Answers.{Answers, bind, as_refused};
+ghost use Rattle.offers.specs.Answers.{bind};
+ghost use Rattle.quotes.specs.Answers.{Answers, as_refused};
 ghost use Rattle.quotes.specs.Offers.{asked};
 ghost use Rattle.quotes.specs.Quotes.{point_at, points_at, dispatch_at, quote_at, quoted, ends_from, piled, settled};
 

@@ -1,7 +1,7 @@
 use Rattle.std.proofs.Common.{Some, sym, ap, ◌∙◌, arith, ltb-false, ltb-true}
 use Rattle.std.proofs.lemmas.Str.Pattern.{starts_char}
 use Rattle.std.proofs.lemmas.Result.{err_from_is_err_and}
-use Rattle.quotes.specs.Answers.{then}
+use Rattle.offers.specs.Answers.{then}
 use Rattle.quotes.proofs.Sequences.{blank, named}
 use Rattle.quotes.proofs.lines.item_of.Goals as goal
 

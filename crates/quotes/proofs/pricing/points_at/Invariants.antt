@@ -1,5 +1,5 @@
 use Rattle.std.proofs.Common.{◌≡◌, ◌++◌, drop, vec_items}
-use Rattle.quotes.specs.Answers.{then}
+use Rattle.offers.specs.Answers.{then}
 use Rattle.quotes.specs.Quotes.{points_at}
 use Rattle.quotes.proofs.pricing.points_at.Given as goal
 

@@ -1,5 +1,5 @@
 use Rattle.std.proofs.Common.{◌≡◌, ◌++◌, length, take, drop}
-use Rattle.quotes.specs.Answers.{then}
+use Rattle.offers.specs.Answers.{then}
 use Rattle.quotes.specs.Records.{each}
 use Rattle.quotes.proofs.UnitSequences.{read}
 use Rattle.quotes.proofs.records.numbers.Given as goal

@@ -1,6 +1,7 @@
 use Rattle.std.proofs.Common.{Ok, Err, sym, ap, ◌∙◌}
 use Rattle.std.proofs.lemmas.Result.{err_from_is_err_and}
-use Rattle.quotes.specs.Answers.{at_line, bind}
+use Rattle.offers.specs.Answers.{bind}
+use Rattle.quotes.specs.Answers.{at_line}
 use Rattle.quotes.specs.Lines.{item_of, words_of}
 use Rattle.quotes.specs.Offers.{asked, taking_any}
 use Rattle.quotes.proofs.Faulting.{faults-on, answers-err, answers_at, line_ok, line-fault}

@@ -1,6 +1,7 @@
 pub mod Answers
 pub mod Lines
 pub mod Offers
+pub mod Piled
 pub mod Quotes
 pub mod Records
 pub mod Sentences

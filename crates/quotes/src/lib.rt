@@ -6,6 +6,7 @@
 mod fault;
 mod lines;
 mod offer;
+mod piled;
 mod pricing;
 mod records;
 mod unit;
@@ -14,6 +15,7 @@ mod unit_lines;
 
 pub use fault::{LineFault, OfferFault};
 pub use offer::{Offer, Pile, read_offer};
+pub use piled::PiledCurve;
 pub use pricing::{Dispatch, Point, Quote, block_curve, price_offer};
 pub use unit::{Unit, read_unit};
 pub use unit_fault::UnitFault;

@@ -1,17 +1,16 @@
 // The prices of an offer: what its curve answers at the end of each block and at each market price.
 
-ghost use Rattle.std.specs.Prelude.{◌≡◌, map, Ok, vec_items};
+ghost use Rattle.std.specs.Prelude.{◌≡◌, map, IfOk, Ok, vec_items};
 ghost use Rattle.offers.specs.Blocks.{blocks_asked};
-ghost use Rattle.offers.specs.Piles.{cap_asked, adder_asked};
-ghost use Rattle.offers.specs.Answers.{bind};
 ghost use Rattle.quotes.specs.Answers.{Answers, as_refused};
 ghost use Rattle.quotes.specs.Offers.{asked};
-ghost use Rattle.quotes.specs.Quotes.{point_at, points_at, dispatch_at, quote_at, quoted, ends_from, piled, settled};
+ghost use Rattle.quotes.specs.Quotes.{point_at, points_at, dispatch_at, quote_at, quoted, ends_from, settled};
 
 use super::fault::OfferFault;
-use super::offer::{Offer, Pile};
-use offers::{Adder, BlockCurve, Cap, OfferCurve};
-use std::alloc::Global;
+use super::offer::Offer;
+use super::piled::PiledCurve;
+use offers::{BlockCurve, OfferCurve};
+use std::alloc::{AllocError, Global};
 
 // The price of a tenth, and the cost of all tenths up to it.
 #[derive(Clone, Copy)]
@@ -70,14 +69,13 @@ fn dispatches_at<C: OfferCurve>(
     heap: Global,
     curve: &C,
     markets: &[i64],
-) -> Result<Vec<Dispatch>, OfferFault>
-    ensures { Answers vec_items result (Ok (map (dispatch_at (C.prices curve.now)) markets.now)) }
+) -> Result<Vec<Dispatch>, AllocError>
+    ensures { IfOk result (λ v. v.items ≡ map (dispatch_at (C.prices curve.now)) markets.now) }
 {
-    let mut dispatches = Vec::new(heap);
-    for market in markets {
-        dispatches.push(dispatch_at(curve, *market))?;
-    }
-    Ok(dispatches)
+    markets
+        .iter()
+        .map(|market| dispatch_at(curve, *market))
+        .collect(heap)
 }
 
 // What a curve answers at these tenths and market prices.
@@ -96,62 +94,6 @@ pub(crate) fn quote_at<C: OfferCurve>(
         points,
         dispatches,
     })
-}
-
-fn quote_capped<C: OfferCurve + Drop>(
-    heap: Global,
-    curve: C,
-    limit: i64,
-    tenths: &[u64],
-    markets: &[i64],
-) -> Result<Quote, OfferFault>
-    ensures { Answers quoted result (as_refused (bind (cap_asked limit (C.prices curve)) (quote_at tenths.now markets.now))) }
-{
-    let capped = Cap::new(curve, limit)?;
-    quote_at(heap, &capped, tenths, markets)
-}
-
-fn quote_raised<C: OfferCurve + Drop>(
-    heap: Global,
-    curve: C,
-    added: i64,
-    tenths: &[u64],
-    markets: &[i64],
-) -> Result<Quote, OfferFault>
-    ensures { Answers quoted result (as_refused (bind (adder_asked added (C.prices curve)) (quote_at tenths.now markets.now))) }
-{
-    let raised = Adder::new(curve, added)?;
-    quote_at(heap, &raised, tenths, markets)
-}
-
-fn quote_pile<C: OfferCurve + Drop>(
-    heap: Global,
-    curve: C,
-    pile: Pile,
-    tenths: &[u64],
-    markets: &[i64],
-) -> Result<Quote, OfferFault>
-    ensures { Answers quoted result (as_refused (bind (piled pile (C.prices curve)) (quote_at tenths.now markets.now))) }
-{
-    match pile {
-        Pile::Bare => quote_at(heap, &curve, tenths, markets),
-        Pile::Cap { limit } => quote_capped(heap, curve, limit, tenths, markets),
-        Pile::Adder { added } => quote_raised(heap, curve, added, tenths, markets),
-        Pile::CapOverAdder { limit, added } => quote_capped(
-            heap,
-            Adder::new(curve, added)?,
-            limit,
-            tenths,
-            markets,
-        ),
-        Pile::AdderOverCap { added, limit } => quote_raised(
-            heap,
-            Cap::new(curve, limit)?,
-            added,
-            tenths,
-            markets,
-        ),
-    }
 }
 
 // The last tenth of each block.
@@ -181,10 +123,10 @@ pub fn price_offer(heap: Global, offer: &Offer) -> Result<Quote, OfferFault>
 {
     let curve = block_curve(heap, offer)?;
     let ends = block_ends(heap, &curve)?;
-    quote_pile(
+    let piled = PiledCurve::new(curve, offer.pile)?;
+    quote_at(
         heap,
-        curve,
-        offer.pile,
+        &piled,
         ends.as_slice(),
         offer.markets.as_slice(),
     )

@@ -1,5 +1,6 @@
 -- What a unit is told of its records.
-use Rattle.std.specs.Prelude.{List, ℤ, Some, None, Option, Result}
+use Rattle.std.specs.Prelude.{List, ℤ, Result}
+use Rattle.std.specs.Option.{option_map}
 use Rattle.offers.specs.declared.refusal.CurveRefusal.{CurveRefusal}
 use Rattle.offers.specs.Answers.{bind, then}
 use Rattle.offers.specs.Blocks.{spread, blocks_asked}
@@ -13,18 +14,13 @@ use Rattle.quotes.specs.Units.{UnitAsked, current_asked}
 use Rattle.statements.specs.declared.statement.RucStatement.{RucStatement}
 use Rattle.statements.specs.declared.statement.Statement.{Statement}
 
--- An answer where there is a question.
-abbrev pub answered : {X Y : Type 0} → (X → Y) → Option X → Option Y
-answered answer None = None
-answered answer (Some x) = Some (answer x)
-
 -- An interval's amounts with its economic operating point, or the refusal of the process.
 abbrev pub ruc_stated : List ℤ → List ℤ → RucRecord → Result RucStatement ProcessRefusal
 ruc_stated committed current x = then (ruc_meaning committed current x) (λ amounts. record { amounts = amounts; economic_point = economic_point current x })
 
--- The hour is settled on the prices at commitment, the interval on both.
+-- Each record there is gets its answer: the hour by the prices at commitment, the interval by both.
 abbrev pub statement_on : List ℤ → UnitAsked → List ℤ → Statement
-statement_on committed u current = record { day_ahead = answered (day_ahead_meaning committed) u.hour; ruc = answered (ruc_stated committed current) u.interval }
+statement_on committed u current = record { day_ahead = option_map (day_ahead_meaning committed) u.hour; ruc = option_map (ruc_stated committed current) u.interval }
 
 -- The prices of an offer, or its refusal: of the blocks, then of what lies on them.
 abbrev pub offered_prices : Asked → Result (List ℤ) CurveRefusal

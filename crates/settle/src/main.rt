@@ -2,31 +2,25 @@
 
 #![tactic(auto)]
 
-mod report;
-
 use quotes::{price_offer, read_offer};
-use report::Report;
+use reports::{DispatchLines, OfferLines, PointLines};
 use std::process::ExitCode;
-
-fn input_lines(rt: &HostRuntime) -> anyhow::Result<Vec<String>> {
-    let heap = rt.alloc();
-    let mut lines = Vec::new(heap);
-    for line in rt.lines(heap) {
-        lines.push(line?)?;
-    }
-    Ok(lines)
-}
 
 // Nothing is printed until the whole offer is priced.
 fn settle(rt: &HostRuntime) -> anyhow::Result<()> {
     let heap = rt.alloc();
-    let lines = input_lines(rt)?;
+    let lines: Vec<String> = rt.lines(heap).try_collect(heap)?;
     let offer = read_offer(heap, lines.as_slice())?;
     let quote = price_offer(heap, &offer)?;
-    rt.print(Report {
-        offer: &offer,
-        quote: &quote,
-    })?;
+    print!(rt;
+        "{}",
+        OfferLines {
+            name: "offer",
+            offer: &offer
+        }
+    )?;
+    print!(rt; "{}", PointLines(&quote))?;
+    print!(rt; "{}", DispatchLines(&quote))?;
     Ok(())
 }
 

@@ -9,19 +9,10 @@ use report::Report;
 use statements::settle_unit;
 use std::process::ExitCode;
 
-fn input_lines(rt: &HostRuntime) -> anyhow::Result<Vec<String>> {
-    let heap = rt.alloc();
-    let mut lines = Vec::new(heap);
-    for line in rt.lines(heap) {
-        lines.push(line?)?;
-    }
-    Ok(lines)
-}
-
 // Nothing is printed until all of it is worked out.
 fn settle(rt: &HostRuntime) -> anyhow::Result<()> {
     let heap = rt.alloc();
-    let lines = input_lines(rt)?;
+    let lines: Vec<String> = rt.lines(heap).try_collect(heap)?;
     let unit = read_unit(heap, lines.as_slice())?;
     let committed = price_offer(heap, &unit.committed)?;
     let current = price_offer(heap, unit.current_offer())?;

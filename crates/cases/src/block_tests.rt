@@ -10,16 +10,17 @@ fn numbers_of_blocks(rt: HostRuntime) -> Result<(), Fail> {
     check_refused(&rt, curve_of(heap, &[])?, 10, 0)?;
     check_refused(&rt, curve_of(heap, &[(1, 5); 11])?, 10, 0)?;
     check_refused(&rt, curve_of(heap, &[(0, 200_000); 11])?, 10, 0)?;
-    check_taken(curve_of(heap, &[(1, 5)])?)?;
-    check_taken(curve_of(heap, &[(1, 5); 10])?)
+    curve_of(heap, &[(1, 5)])??;
+    curve_of(heap, &[(1, 5); 10])??;
+    Ok(())
 }
 
 #[test]
 fn widths(rt: HostRuntime) -> Result<(), Fail> {
     let heap = rt.alloc();
     let mut ten = [(1_000, 7); 10];
-    check_taken(curve_of(heap, &ten)?)?;
-    check_taken(curve_of(heap, &[(10_000, 7)])?)?;
+    curve_of(heap, &ten)??;
+    curve_of(heap, &[(10_000, 7)])??;
     check_refused(&rt, curve_of(heap, &[(0, 7)])?, 10, 1)?;
     check_refused(&rt, curve_of(heap, &[(10_001, 7)])?, 10, 1)?;
     check_refused(&rt, curve_of(heap, &[(u64::MAX, 7)])?, 10, 1)?;
@@ -34,7 +35,7 @@ fn widths(rt: HostRuntime) -> Result<(), Fail> {
 fn prices_in_range(rt: HostRuntime) -> Result<(), Fail> {
     let heap = rt.alloc();
     for price in [100_000, -100_000, 0] {
-        check_taken(curve_of(heap, &[(1, price)])?)?;
+        curve_of(heap, &[(1, price)])??;
     }
     for price in [100_001, -100_001, i64::MAX, i64::MIN] {
         check_refused(&rt, curve_of(heap, &[(1, price)])?, 11, 1)?;
@@ -51,7 +52,8 @@ fn falling_prices(rt: HostRuntime) -> Result<(), Fail> {
     let mut ten = [(1, 7); 10];
     ten[9] = (1, 6);
     check_refused(&rt, curve_of(heap, &ten)?, 12, 10)?;
-    check_taken(curve_of(heap, &[(1, -100_000), (1, -100_000), (1, 100_000)])?)
+    curve_of(heap, &[(1, -100_000), (1, -100_000), (1, 100_000)])??;
+    Ok(())
 }
 
 // Block by block, and in each the width, then the range, then the order.
@@ -102,9 +104,7 @@ fn answers_of_b(rt: HostRuntime) -> Result<(), Fail> {
 
 #[test]
 fn negative_prices(rt: HostRuntime) -> Result<(), Fail> {
-    let Ok(curve) = curve_of(rt.alloc(), &[(10, -50), (5, -50), (5, 20)])? else {
-        return Err(Fail::new("refused"));
-    };
+    let curve = curve_of(rt.alloc(), &[(10, -50), (5, -50), (5, 20)])??;
     check_prices(&rt, &curve, &[(10, -50), (15, -50), (16, 20)])?;
     check_costs(&rt, &curve, &[(10, -500), (15, -750), (20, -650)])?;
     check_counts(&rt, &curve, &[(-51, 0), (-50, 15), (19, 15), (20, 20)]);
@@ -114,12 +114,8 @@ fn negative_prices(rt: HostRuntime) -> Result<(), Fail> {
 // The largest cost that a curve can have, either way.
 #[test]
 fn largest_costs(rt: HostRuntime) -> Result<(), Fail> {
-    let Ok(high) = curve_of(rt.alloc(), &[(10_000, 100_000)])? else {
-        return Err(Fail::new("refused"));
-    };
-    let Ok(low) = curve_of(rt.alloc(), &[(10_000, -100_000)])? else {
-        return Err(Fail::new("refused"));
-    };
+    let high = curve_of(rt.alloc(), &[(10_000, 100_000)])??;
+    let low = curve_of(rt.alloc(), &[(10_000, -100_000)])??;
     check_costs(&rt, &high, &[(10_000, 1_000_000_000)])?;
     check_costs(&rt, &low, &[(10_000, -1_000_000_000)])?;
     check_beyond(&rt, &high, 10_000)

@@ -6,10 +6,7 @@ use std::alloc::Global;
 use std::test::Fail;
 
 fn level(heap: Global, price: i64) -> Result<BlockCurve, Fail> {
-    match curve_of(heap, &[(10, price)])? {
-        Ok(curve) => Ok(curve),
-        Err(_) => Err(Fail::new("refused")),
-    }
+    Ok(curve_of(heap, &[(10, price)])??)
 }
 
 #[test]
@@ -19,7 +16,7 @@ fn limits_of_a_cap(rt: HostRuntime) -> Result<(), Fail> {
         check_refused(&rt, Cap::new(curve_b(heap)?, limit), 11, 0)?;
     }
     for limit in [100_000, -100_000, 0] {
-        check_taken(Cap::new(curve_b(heap)?, limit))?;
+        Cap::new(curve_b(heap)?, limit)?;
     }
     Ok(())
 }
@@ -31,7 +28,7 @@ fn numbers_of_an_adder(rt: HostRuntime) -> Result<(), Fail> {
         check_refused(&rt, Adder::new(curve_b(heap)?, added), 11, 0)?;
     }
     for added in [97_000, -102_000, 0] {
-        check_taken(Adder::new(curve_b(heap)?, added))?;
+        Adder::new(curve_b(heap)?, added)?;
     }
     Ok(())
 }
@@ -42,12 +39,8 @@ fn largest_numbers_of_an_adder(rt: HostRuntime) -> Result<(), Fail> {
     let heap = rt.alloc();
     check_refused(&rt, Adder::new(level(heap, -100_000)?, 200_001), 11, 0)?;
     check_refused(&rt, Adder::new(level(heap, 100_000)?, -200_001), 11, 0)?;
-    let Ok(up) = Adder::new(level(heap, -100_000)?, 200_000) else {
-        return Err(Fail::new("refused"));
-    };
-    let Ok(down) = Adder::new(level(heap, 100_000)?, -200_000) else {
-        return Err(Fail::new("refused"));
-    };
+    let up = Adder::new(level(heap, -100_000)?, 200_000)?;
+    let down = Adder::new(level(heap, 100_000)?, -200_000)?;
     check_costs(&rt, &up, &[(10, 1_000_000)])?;
     check_counts(&rt, &up, &[(99_999, 0), (100_000, 10), (i64::MAX, 10)]);
     check_costs(&rt, &down, &[(10, -1_000_000)])?;
@@ -58,14 +51,10 @@ fn largest_numbers_of_an_adder(rt: HostRuntime) -> Result<(), Fail> {
 #[test]
 fn cap_at_the_ends_of_the_range(rt: HostRuntime) -> Result<(), Fail> {
     let heap = rt.alloc();
-    let Ok(low) = Cap::new(curve_b(heap)?, -100_000) else {
-        return Err(Fail::new("refused"));
-    };
+    let low = Cap::new(curve_b(heap)?, -100_000)?;
     check_costs(&rt, &low, &[(0, 0), (200, -20_000_000)])?;
     check_counts(&rt, &low, &[(-100_001, 0), (-100_000, 200)]);
-    let Ok(high) = Cap::new(curve_b(heap)?, 100_000) else {
-        return Err(Fail::new("refused"));
-    };
+    let high = Cap::new(curve_b(heap)?, 100_000)?;
     check_costs(&rt, &high, &[(200, 500_000)])?;
     check_counts(&rt, &high, &[(2_999, 100), (99_999, 200), (i64::MAX, 200)]);
     check_beyond(&rt, &high, 200)
@@ -74,12 +63,8 @@ fn cap_at_the_ends_of_the_range(rt: HostRuntime) -> Result<(), Fail> {
 // Prices 2,300 and 2,500.
 #[test]
 fn cap_over_adder(rt: HostRuntime) -> Result<(), Fail> {
-    let Ok(adder) = Adder::new(curve_b(rt.alloc())?, 300) else {
-        return Err(Fail::new("refused"));
-    };
-    let Ok(pile) = Cap::new(adder, 2_500) else {
-        return Err(Fail::new("refused"));
-    };
+    let adder = Adder::new(curve_b(rt.alloc())?, 300)?;
+    let pile = Cap::new(adder, 2_500)?;
     check_prices(
         &rt,
         &pile,
@@ -108,12 +93,8 @@ fn cap_over_adder(rt: HostRuntime) -> Result<(), Fail> {
 // Prices 2,300 and 2,800.
 #[test]
 fn adder_over_cap(rt: HostRuntime) -> Result<(), Fail> {
-    let Ok(cap) = Cap::new(curve_b(rt.alloc())?, 2_500) else {
-        return Err(Fail::new("refused"));
-    };
-    let Ok(pile) = Adder::new(cap, 300) else {
-        return Err(Fail::new("refused"));
-    };
+    let cap = Cap::new(curve_b(rt.alloc())?, 2_500)?;
+    let pile = Adder::new(cap, 300)?;
     check_prices(
         &rt,
         &pile,
@@ -142,18 +123,10 @@ fn adder_over_cap(rt: HostRuntime) -> Result<(), Fail> {
 // Four deep: 100 tenths at 2,000 - 102,000 + 1,000 = -99,000, and 100 at 3,000, capped at 2,500, so at -98,500.
 #[test]
 fn four_deep(rt: HostRuntime) -> Result<(), Fail> {
-    let Ok(cap) = Cap::new(curve_b(rt.alloc())?, 2_500) else {
-        return Err(Fail::new("refused"));
-    };
-    let Ok(down) = Adder::new(cap, -102_000) else {
-        return Err(Fail::new("refused"));
-    };
-    let Ok(up) = Adder::new(down, 1_000) else {
-        return Err(Fail::new("refused"));
-    };
-    let Ok(pile) = Cap::new(up, 100_000) else {
-        return Err(Fail::new("refused"));
-    };
+    let cap = Cap::new(curve_b(rt.alloc())?, 2_500)?;
+    let down = Adder::new(cap, -102_000)?;
+    let up = Adder::new(down, 1_000)?;
+    let pile = Cap::new(up, 100_000)?;
     check_prices(&rt, &pile, &[(100, -99_000), (101, -98_500)])?;
     check_costs(&rt, &pile, &[(200, -19_750_000)])?;
     check_counts(&rt, &pile, &[(-99_001, 0), (-99_000, 100), (-98_500, 200)]);

@@ -1,5 +1,6 @@
 // Offers as text, executed: what is wrong with them, and what lies over what.
 
+use super::support::*;
 use offers::CurveRefusal;
 use quotes::{LineFault, OfferFault, Quote, price_offer, read_offer};
 use std::alloc::Global;
@@ -7,135 +8,104 @@ use std::process::Abort;
 use std::test::Fail;
 
 fn quote_of(heap: Global, text: &str) -> Result<Quote, OfferFault> {
-    let mut lines = Vec::new(heap);
-    for line in text.lines() {
-        lines.push(String::from_str(heap, line)?)?;
-    }
-    let offer = read_offer(heap, lines.as_slice())?;
+    let offer = read_offer(heap, lines_of(heap, text)?.as_slice())?;
     price_offer(heap, &offer)
 }
 
-fn faulty(rt: &impl Abort, heap: Global, text: &str, fault: OfferFault) -> Result<(), Fail> {
-    match quote_of(heap, text) {
-        Ok(_) => Err(Fail::new("the offer was priced")),
-        Err(found) => {
-            assert_eq!(rt; found, fault);
-            Ok(())
-        },
+// That each text is faulty, on which line.
+fn check_lines(rt: &impl Abort, heap: Global, table: &[(&str, u64, LineFault)]) {
+    for (text, number, fault) in table {
+        let due = OfferFault::Line {
+            number: *number,
+            fault: *fault,
+        };
+        assert_eq!(rt; quote_of(heap, text).err(), Some(due));
     }
 }
 
-fn faulty_line(
-    rt: &impl Abort,
-    heap: Global,
-    text: &str,
-    number: u64,
-    fault: LineFault,
-) -> Result<(), Fail> {
-    faulty(rt, heap, text, OfferFault::Line { number, fault })
-}
-
-fn refused(rt: &impl Abort, heap: Global, text: &str, refusal: CurveRefusal) -> Result<(), Fail> {
-    faulty(rt, heap, text, OfferFault::Refused(refusal))
+// That each offer is refused.
+fn check_refusals(rt: &impl Abort, heap: Global, table: &[(&str, CurveRefusal)]) {
+    for (text, refusal) in table {
+        assert_eq!(rt;
+            quote_of(heap, text).err(),
+            Some(OfferFault::Refused(*refusal))
+        );
+    }
 }
 
 // The price of the last tenth.
 fn top_price(heap: Global, text: &str) -> Result<Option<i64>, Fail> {
-    match quote_of(heap, text)?.points.as_slice() {
-        [.., last] => Ok(Some(last.price)),
-        [] => Ok(None),
-    }
+    let quote = quote_of(heap, text)?;
+    Ok(quote.points.last().map(|point| point.price))
 }
 
 #[test]
-fn wrong_lines(rt: HostRuntime) -> Result<(), Fail> {
-    let heap = rt.alloc();
-    faulty_line(
+fn wrong_lines(rt: HostRuntime) {
+    check_lines(
         &rt,
-        heap,
-        "# an offer\n\nblocks 1 2\n",
-        3,
-        LineFault::UnknownItem,
-    )?;
-    faulty_line(&rt, heap, "block 1", 1, LineFault::WordCount)?;
-    faulty_line(&rt, heap, "block 1 2\n  cap 3 4", 2, LineFault::WordCount)?;
-    faulty_line(&rt, heap, "block -1 2", 1, LineFault::NotANumber)?;
-    faulty_line(&rt, heap, "block 1 2\nmarket 3x", 2, LineFault::NotANumber)
+        rt.alloc(),
+        &[
+            ("# an offer\n\nblocks 1 2\n", 3, LineFault::UnknownItem),
+            ("block 1", 1, LineFault::WordCount),
+            ("block 1 2\n  cap 3 4", 2, LineFault::WordCount),
+            ("block -1 2", 1, LineFault::NotANumber),
+            ("block 1 2\nmarket 3x", 2, LineFault::NotANumber),
+        ],
+    );
 }
 
 #[test]
-fn second_cap_and_adder(rt: HostRuntime) -> Result<(), Fail> {
-    let heap = rt.alloc();
-    faulty_line(&rt, heap, "cap 1\nadder 2\ncap 1", 3, LineFault::SecondCap)?;
-    faulty_line(
+fn second_cap_and_adder(rt: HostRuntime) {
+    check_lines(
         &rt,
-        heap,
-        "adder 1\n# more\nadder 1",
-        3,
-        LineFault::SecondAdder,
-    )
+        rt.alloc(),
+        &[
+            ("cap 1\nadder 2\ncap 1", 3, LineFault::SecondCap),
+            ("adder 1\n# more\nadder 1", 3, LineFault::SecondAdder),
+        ],
+    );
 }
 
 #[test]
-fn extreme_numbers(rt: HostRuntime) -> Result<(), Fail> {
+fn extreme_numbers(rt: HostRuntime) {
     let heap = rt.alloc();
-    refused(
+    check_refusals(
         &rt,
         heap,
-        "block 18446744073709551615 0",
-        CurveRefusal::TooWide(1),
-    )?;
-    faulty_line(
+        &[
+            ("block 18446744073709551615 0", CurveRefusal::TooWide(1)),
+            (
+                "block 1 -9223372036854775808",
+                CurveRefusal::PriceOutOfRange(1),
+            ),
+        ],
+    );
+    check_lines(
         &rt,
         heap,
-        "block 18446744073709551616 0",
-        1,
-        LineFault::NotANumber,
-    )?;
-    refused(
-        &rt,
-        heap,
-        "block 1 -9223372036854775808",
-        CurveRefusal::PriceOutOfRange(1),
-    )?;
-    faulty_line(
-        &rt,
-        heap,
-        "market -9223372036854775809",
-        1,
-        LineFault::NotANumber,
-    )?;
-    faulty_line(
-        &rt,
-        heap,
-        "market 9223372036854775808",
-        1,
-        LineFault::NotANumber,
-    )
+        &[
+            ("block 18446744073709551616 0", 1, LineFault::NotANumber),
+            ("market -9223372036854775809", 1, LineFault::NotANumber),
+            ("market 9223372036854775808", 1, LineFault::NotANumber),
+        ],
+    );
 }
 
 #[test]
-fn refused_offers(rt: HostRuntime) -> Result<(), Fail> {
-    let heap = rt.alloc();
-    refused(&rt, heap, "", CurveRefusal::BlockCount)?;
-    refused(
+fn refused_offers(rt: HostRuntime) {
+    check_refusals(
         &rt,
-        heap,
-        "block 100 3000\nblock 100 2000",
-        CurveRefusal::PriceFalls(2),
-    )?;
-    refused(
-        &rt,
-        heap,
-        "block 1 0\ncap 100001",
-        CurveRefusal::CapOutOfRange,
-    )?;
-    refused(
-        &rt,
-        heap,
-        "block 1 99000\nadder 1001",
-        CurveRefusal::AdderOutOfRange,
-    )
+        rt.alloc(),
+        &[
+            ("", CurveRefusal::BlockCount),
+            (
+                "block 100 3000\nblock 100 2000",
+                CurveRefusal::PriceFalls(2),
+            ),
+            ("block 1 0\ncap 100001", CurveRefusal::CapOutOfRange),
+            ("block 1 99000\nadder 1001", CurveRefusal::AdderOutOfRange),
+        ],
+    );
 }
 
 #[test]

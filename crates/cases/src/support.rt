@@ -1,73 +1,51 @@
-// What the tests of curves share: curves made of pairs, and answers compared with tables.
+// What the tests share: lines, curves made of pairs, and answers compared with tables.
 
-use offers::{Block, BlockCurve, CurveRefusal, Layer, OfferCurve};
+use offers::{Block, BlockCurve, CurveRefusal, Layer, OfferCurve, Refusal};
 use std::alloc::{AllocError, Global};
 use std::process::Abort;
 use std::test::Fail;
+
+// The lines of a text.
+pub(super) fn lines_of(heap: Global, text: &str) -> Result<Vec<String>, AllocError> {
+    text.lines()
+        .map(|line| String::from_str(heap, line))
+        .try_collect(heap)
+}
 
 // The curve of blocks given as width and price, or its refusal.
 pub(super) fn curve_of(
     heap: Global,
     pairs: &[(u64, i64)],
 ) -> Result<Result<BlockCurve, CurveRefusal>, AllocError> {
-    let mut blocks = Vec::new(heap);
-    for (width, price) in pairs {
-        blocks.push(Block {
+    let blocks = pairs
+        .iter()
+        .map(|(width, price)| Block {
             width: *width,
             price: *price,
-        })?;
-    }
+        })
+        .collect(heap)?;
     Ok(BlockCurve::new(blocks))
 }
 
 // 100 tenths at 2,000 and 100 at 3,000.
 pub(super) fn curve_b(heap: Global) -> Result<BlockCurve, Fail> {
-    match curve_of(heap, &[(100, 2_000), (100, 3_000)])? {
-        Ok(curve) => Ok(curve),
-        Err(_) => Err(Fail::new("refused")),
-    }
+    Ok(curve_of(heap, &[(100, 2_000), (100, 3_000)])??)
 }
 
-pub(super) fn check_refusal(
-    rt: &impl Abort,
-    refusal: CurveRefusal,
-    number: u8,
-    place: u64,
-) -> Result<(), Fail> {
-    assert_eq!(rt; refusal.number(), number);
-    assert_eq!(rt; refusal.layer(), Layer::Curve);
-    assert_eq!(rt; refusal.place(), place);
-    Ok(())
-}
-
-// That a make or a question is refused, with which number and place.
+// That a make or a question is refused by the curve layer, with which number and place.
 pub(super) fn check_refused<T: Drop>(
     rt: &impl Abort,
     told: Result<T, CurveRefusal>,
     number: u8,
     place: u64,
 ) -> Result<(), Fail> {
-    match told {
-        Ok(_) => Err(Fail::new("taken")),
-        Err(refusal) => check_refusal(rt, refusal, number, place),
-    }
-}
-
-pub(super) fn check_taken<T: Drop>(told: Result<T, CurveRefusal>) -> Result<(), Fail> {
-    match told {
-        Ok(_) => Ok(()),
-        Err(_) => Err(Fail::new("refused")),
-    }
-}
-
-fn check_amount(rt: &impl Abort, told: Result<i64, CurveRefusal>, amount: i64) -> Result<(), Fail> {
-    match told {
-        Ok(ticks) => {
-            assert_eq!(rt; ticks, amount);
-            Ok(())
-        },
-        Err(_) => Err(Fail::new("refused")),
-    }
+    let Err(refusal) = told else {
+        return Err(Fail::new("taken"));
+    };
+    assert_eq!(rt; refusal.number(), number);
+    assert_eq!(rt; refusal.layer(), Layer::Curve);
+    assert_eq!(rt; refusal.place(), place);
+    Ok(())
 }
 
 pub(super) fn check_prices<C: OfferCurve>(
@@ -76,7 +54,7 @@ pub(super) fn check_prices<C: OfferCurve>(
     table: &[(u64, i64)],
 ) -> Result<(), Fail> {
     for (tenth, price) in table {
-        check_amount(rt, curve.price(*tenth), *price)?;
+        assert_eq!(rt; curve.price(*tenth)?, *price);
     }
     Ok(())
 }
@@ -87,7 +65,7 @@ pub(super) fn check_costs<C: OfferCurve>(
     table: &[(u64, i64)],
 ) -> Result<(), Fail> {
     for (tenths, cost) in table {
-        check_amount(rt, curve.cost(*tenths), *cost)?;
+        assert_eq!(rt; curve.cost(*tenths)?, *cost);
     }
     Ok(())
 }

@@ -1,5 +1,6 @@
 // Units as text, executed: what is wrong with them, and what they are told.
 
+use super::support::*;
 use market::{Amounts, ProcessRefusal};
 use offers::CurveRefusal;
 use quotes::{LineFault, OfferFault, Unit, UnitFault, price_offer, read_unit};
@@ -13,16 +14,8 @@ const NOTHING: Statement = Statement {
     ruc: None,
 };
 
-fn lines_of(heap: Global, text: &str) -> Result<Vec<String>, OfferFault> {
-    let mut lines = Vec::new(heap);
-    for line in text.lines() {
-        lines.push(String::from_str(heap, line)?)?;
-    }
-    Ok(lines)
-}
-
 fn unit_of(heap: Global, text: &str) -> Result<Unit, UnitFault> {
-    let lines = lines_of(heap, text)?;
+    let lines = lines_of(heap, text).map_err(OfferFault::from)?;
     read_unit(heap, lines.as_slice())
 }
 
@@ -31,34 +24,28 @@ fn statement_of(heap: Global, text: &str) -> Result<Statement, UnitFault> {
     Ok(settle_unit(heap, &unit)?)
 }
 
-fn faulty(rt: &impl Abort, heap: Global, text: &str, fault: UnitFault) -> Result<(), Fail> {
-    match statement_of(heap, text) {
-        Ok(_) => Err(Fail::new("the unit was settled")),
-        Err(found) => {
-            assert_eq!(rt; found, fault);
-            Ok(())
-        },
+// That each text is faulty, on which line.
+fn check_lines(rt: &impl Abort, heap: Global, table: &[(&str, u64, LineFault)]) {
+    for (text, number, fault) in table {
+        let due = OfferFault::Line {
+            number: *number,
+            fault: *fault,
+        };
+        assert_eq!(rt; statement_of(heap, text).err(), Some(UnitFault::Offer(due)));
     }
 }
 
-fn faulty_line(
-    rt: &impl Abort,
-    heap: Global,
-    text: &str,
-    number: u64,
-    fault: LineFault,
-) -> Result<(), Fail> {
-    let fault = OfferFault::Line { number, fault };
-    faulty(rt, heap, text, UnitFault::Offer(fault))
+// That an offer of each text is refused.
+fn check_refusals(rt: &impl Abort, heap: Global, table: &[(&str, CurveRefusal)]) {
+    for (text, refusal) in table {
+        let due = OfferFault::Refused(*refusal);
+        assert_eq!(rt; statement_of(heap, text).err(), Some(UnitFault::Offer(due)));
+    }
 }
 
-fn refused(rt: &impl Abort, heap: Global, text: &str, refusal: CurveRefusal) -> Result<(), Fail> {
-    faulty(
-        rt,
-        heap,
-        text,
-        UnitFault::Offer(OfferFault::Refused(refusal)),
-    )
+// That the line is a second one of its kind.
+fn check_second(rt: &impl Abort, heap: Global, text: &str, fault: UnitFault) {
+    assert_eq!(rt; statement_of(heap, text).err(), Some(fault));
 }
 
 fn hour(cost: i64, revenue: i64) -> Option<Result<Amounts, ProcessRefusal>> {
@@ -77,103 +64,101 @@ fn interval(amounts: Amounts, economic_point: u64) -> Option<Result<RucStatement
 }
 
 #[test]
-fn wrong_record_lines(rt: HostRuntime) -> Result<(), Fail> {
-    let heap = rt.alloc();
-    faulty_line(&rt, heap, "day-ahead", 1, LineFault::WordCount)?;
-    faulty_line(&rt, heap, "day-ahead 1 2 3 4", 1, LineFault::WordCount)?;
-    faulty_line(&rt, heap, "day-ahead 1 2 3 4 5 6", 1, LineFault::WordCount)?;
-    faulty_line(
+fn wrong_record_lines(rt: HostRuntime) {
+    check_lines(
         &rt,
-        heap,
-        "ruc 1 2 3 4 5 6 7 8 9 10",
-        1,
-        LineFault::WordCount,
-    )?;
-    faulty_line(
-        &rt,
-        heap,
-        "ruc 1 2 3 4 5 6 7 8 9 10 11 12",
-        1,
-        LineFault::WordCount,
-    )?;
-    faulty_line(&rt, heap, "current 1", 1, LineFault::WordCount)?;
-    faulty_line(&rt, heap, "current-offer", 1, LineFault::UnknownItem)?;
-    faulty_line(&rt, heap, "day-ahead x 2 3 4", 1, LineFault::WordCount)?;
-    faulty_line(&rt, heap, "day-ahead 1 2 3 4 x", 1, LineFault::NotANumber)?;
-    faulty_line(
-        &rt,
-        heap,
-        "\nruc 9223372036854775808 2 3 4 5 6 7 8 9 10 11",
-        2,
-        LineFault::NotANumber,
-    )
+        rt.alloc(),
+        &[
+            ("day-ahead", 1, LineFault::WordCount),
+            ("day-ahead 1 2 3 4", 1, LineFault::WordCount),
+            ("day-ahead 1 2 3 4 5 6", 1, LineFault::WordCount),
+            ("ruc 1 2 3 4 5 6 7 8 9 10", 1, LineFault::WordCount),
+            ("ruc 1 2 3 4 5 6 7 8 9 10 11 12", 1, LineFault::WordCount),
+            ("current 1", 1, LineFault::WordCount),
+            ("current-offer", 1, LineFault::UnknownItem),
+            ("day-ahead x 2 3 4", 1, LineFault::WordCount),
+            ("day-ahead 1 2 3 4 x", 1, LineFault::NotANumber),
+            (
+                "\nruc 9223372036854775808 2 3 4 5 6 7 8 9 10 11",
+                2,
+                LineFault::NotANumber,
+            ),
+        ],
+    );
 }
 
 #[test]
-fn second_lines(rt: HostRuntime) -> Result<(), Fail> {
+fn second_lines(rt: HostRuntime) {
     let heap = rt.alloc();
-    faulty(
+    check_second(
         &rt,
         heap,
         "current\nblock 1 2\ncurrent",
         UnitFault::SecondCurrent(3),
-    )?;
-    faulty(
+    );
+    check_second(
         &rt,
         heap,
         "day-ahead 1 2 3 4 5\ncurrent\nday-ahead 1 2 3 4 5",
         UnitFault::SecondDayAhead(3),
-    )?;
-    faulty(
+    );
+    check_second(
         &rt,
         heap,
         "ruc 1 2 3 4 5 6 7 8 9 10 11\nruc 1 2 3 4 5 6 7 8 9 10 11",
         UnitFault::SecondRuc(2),
-    )?;
-    faulty_line(
+    );
+    check_lines(
         &rt,
         heap,
-        "cap 1\ncurrent\ncap 2\ncap 3",
-        4,
-        LineFault::SecondCap,
-    )
+        &[("cap 1\ncurrent\ncap 2\ncap 3", 4, LineFault::SecondCap)],
+    );
 }
 
 #[test]
-fn first_fault_first(rt: HostRuntime) -> Result<(), Fail> {
+fn first_fault_first(rt: HostRuntime) {
     let heap = rt.alloc();
-    faulty_line(
+    check_lines(
         &rt,
         heap,
-        "day-ahead 1 2 3 4 5\nday-ahead 1\nruc",
-        2,
-        LineFault::WordCount,
-    )?;
-    faulty_line(&rt, heap, "block 0 1\nruc x", 2, LineFault::WordCount)?;
-    refused(&rt, heap, "block 0 1\ncurrent", CurveRefusal::EmptyBlock(1))?;
-    refused(
+        &[
+            (
+                "day-ahead 1 2 3 4 5\nday-ahead 1\nruc",
+                2,
+                LineFault::WordCount,
+            ),
+            ("block 0 1\nruc x", 2, LineFault::WordCount),
+        ],
+    );
+    check_refusals(
         &rt,
         heap,
-        "block 1 0\ncap 100001\ncurrent",
-        CurveRefusal::CapOutOfRange,
-    )
+        &[
+            ("block 0 1\ncurrent", CurveRefusal::EmptyBlock(1)),
+            (
+                "block 1 0\ncap 100001\ncurrent",
+                CurveRefusal::CapOutOfRange,
+            ),
+        ],
+    );
 }
 
 #[test]
-fn refused_current_offers(rt: HostRuntime) -> Result<(), Fail> {
-    let heap = rt.alloc();
-    refused(
+fn refused_current_offers(rt: HostRuntime) {
+    check_refusals(
         &rt,
-        heap,
-        "block 100 2000\ncurrent\nday-ahead 50 0 0 0 0",
-        CurveRefusal::BlockCount,
-    )?;
-    refused(
-        &rt,
-        heap,
-        "block 1 0\ncurrent\nblock 1 99000\nadder 1001",
-        CurveRefusal::AdderOutOfRange,
-    )
+        rt.alloc(),
+        &[
+            (
+                "block 100 2000\ncurrent\nday-ahead 50 0 0 0 0",
+                CurveRefusal::BlockCount,
+            ),
+            (
+                "block 1 0\ncurrent\nblock 1 99000\nadder 1001",
+                CurveRefusal::AdderOutOfRange,
+            ),
+        ],
+    );
 }
 
 #[test]
@@ -270,45 +255,45 @@ fn refused_records(rt: HostRuntime) -> Result<(), Fail> {
 
 // An offer alone is a unit without records.
 #[test]
-fn wrong_lines_of_an_offer_alone(rt: HostRuntime) -> Result<(), Fail> {
-    let heap = rt.alloc();
-    for (text, number, fault) in [
-        ("# an offer\n\nblocks 1 2\n", 3, LineFault::UnknownItem),
-        ("block 1", 1, LineFault::WordCount),
-        ("block 1 2\n  cap 3 4", 2, LineFault::WordCount),
-        ("block -1 2", 1, LineFault::NotANumber),
-        ("block 1 2\nmarket 3x", 2, LineFault::NotANumber),
-        ("cap 1\nadder 2\ncap 1", 3, LineFault::SecondCap),
-        ("adder 1\n# more\nadder 1", 3, LineFault::SecondAdder),
-        ("block 18446744073709551616 0", 1, LineFault::NotANumber),
-        ("market -9223372036854775809", 1, LineFault::NotANumber),
-        ("market 9223372036854775808", 1, LineFault::NotANumber),
-    ] {
-        faulty_line(&rt, heap, text, number, fault)?;
-    }
-    Ok(())
+fn wrong_lines_of_an_offer_alone(rt: HostRuntime) {
+    check_lines(
+        &rt,
+        rt.alloc(),
+        &[
+            ("# an offer\n\nblocks 1 2\n", 3, LineFault::UnknownItem),
+            ("block 1", 1, LineFault::WordCount),
+            ("block 1 2\n  cap 3 4", 2, LineFault::WordCount),
+            ("block -1 2", 1, LineFault::NotANumber),
+            ("block 1 2\nmarket 3x", 2, LineFault::NotANumber),
+            ("cap 1\nadder 2\ncap 1", 3, LineFault::SecondCap),
+            ("adder 1\n# more\nadder 1", 3, LineFault::SecondAdder),
+            ("block 18446744073709551616 0", 1, LineFault::NotANumber),
+            ("market -9223372036854775809", 1, LineFault::NotANumber),
+            ("market 9223372036854775808", 1, LineFault::NotANumber),
+        ],
+    );
 }
 
 #[test]
-fn refused_offers_alone(rt: HostRuntime) -> Result<(), Fail> {
-    let heap = rt.alloc();
-    for (text, refusal) in [
-        ("", CurveRefusal::BlockCount),
-        ("block 18446744073709551615 0", CurveRefusal::TooWide(1)),
-        (
-            "block 1 -9223372036854775808",
-            CurveRefusal::PriceOutOfRange(1),
-        ),
-        (
-            "block 100 3000\nblock 100 2000",
-            CurveRefusal::PriceFalls(2),
-        ),
-        ("block 1 0\ncap 100001", CurveRefusal::CapOutOfRange),
-        ("block 1 99000\nadder 1001", CurveRefusal::AdderOutOfRange),
-    ] {
-        refused(&rt, heap, text, refusal)?;
-    }
-    Ok(())
+fn refused_offers_alone(rt: HostRuntime) {
+    check_refusals(
+        &rt,
+        rt.alloc(),
+        &[
+            ("", CurveRefusal::BlockCount),
+            ("block 18446744073709551615 0", CurveRefusal::TooWide(1)),
+            (
+                "block 1 -9223372036854775808",
+                CurveRefusal::PriceOutOfRange(1),
+            ),
+            (
+                "block 100 3000\nblock 100 2000",
+                CurveRefusal::PriceFalls(2),
+            ),
+            ("block 1 0\ncap 100001", CurveRefusal::CapOutOfRange),
+            ("block 1 99000\nadder 1001", CurveRefusal::AdderOutOfRange),
+        ],
+    );
 }
 
 #[test]

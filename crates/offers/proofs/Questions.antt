@@ -1,5 +1,5 @@
 -- Questions to a changed list of prices, by the answers of the list below.
-use Rattle.std.proofs.Common.{◌≡◌, ℕ, suc, ◌-◌, ◌<◌, ◌≤◌, min, Bool, true, false, cond, ◌&&◌, leb, List, [], ◌∷◌, map, length, get_or, take, ℤ, pos, negsuc, ◌+ℤ◌, ◌-ℤ◌, ◌*ℤ◌, ◌≤ℤ◌, Ok, Err, sym, refl, ap, ◌∙◌, subst, arith, w64, SFits, to_z, of_z}
+use Rattle.std.proofs.Common.{◌≡◌, ℕ, suc, ◌-◌, ◌≤◌, min, Bool, true, false, cond, ◌&&◌, leb, List, [], ◌∷◌, map, length, get_or, take, ℤ, pos, negsuc, ◌+ℤ◌, ◌-ℤ◌, ◌*ℤ◌, ◌≤ℤ◌, Ok, Err, sym, refl, ap, ◌∙◌, subst, arith, w64, SFits, to_z, of_z}
 use lib.ListN.{length-map}
 use Rattle.std.proofs.ByRecursion.{All-take, All-get_or}
 use Rattle.std.proofs.lemmas.List.{length-take, get_or-map}
@@ -7,7 +7,6 @@ use Rattle.std.proofs.lemmas.Int.{ints, to_z-of_z}
 use Rattle.std.proofs.lemmas.Bool.{and_parts, and_left, and_right, leb-true}
 use Rattle.std.proofs.lemmas.Bool.Decides.{nat_tests}
 use Rattle.std.specs.Int.{int_min, int_max}
-use Rattle.offers.specs.declared.refusal.CurveRefusal.{CurveRefusal}
 use Rattle.offers.specs.declared.refusal.CurveRefusal.TheVariants.{NoSuchTenth, AdderOutOfRange}
 use Rattle.offers.specs.Prices.{InRange, in_range, lowest_price, highest_price, Rising, Lawful, total, up_to, price_of, cost_of}
 use Rattle.offers.specs.Answers.{then}
@@ -34,9 +33,6 @@ price-map m ps t = go (leb 1 t && leb t (length ps)) refl
         let same = length-map ps m in
         let test : (leb 1 t && leb t (length (map m ps))) ≡ false = rw same e in
         rw test
-
-pub price-refused : (m : ℤ → ℤ) (ps : List ℤ) (t : ℕ) (e : CurveRefusal) → Err e ≡ price_of ps t → Err e ≡ price_of (map m ps) t
-price-refused m ps t e h = ap (λ r. then r m) h ∙ price-map m ps t
 
 pub price-changed : (m : ℤ → ℤ) (ps : List ℤ) (t : ℕ) (p r : ℤ) → r ≡ m p → Ok p ≡ price_of ps t → Ok r ≡ price_of (map m ps) t
 price-changed m ps t p r is h = ap Ok is ∙ ap (λ r. then r m) h ∙ price-map m ps t
@@ -67,9 +63,6 @@ price-within ps t p l e = go (leb 1 t && leb t (length ps)) refl
         let f : Ok p ≡ Err (NoSuchTenth t) = rw h at e in
         let z : ◌≡◌ {A = ℕ} 0 1 = cc in
         absurd (omega arith)
-
-pub cost-beyond : (ps : List ℤ) (q : ℕ) → length ps < q → Err (NoSuchTenth q) ≡ cost_of ps q
-cost-beyond ps q h = let t : leb q (length ps) ≡ false = grind (arith, nat_tests) in rw t
 
 pub cost-inside : (ps : List ℤ) (q : ℕ) → q ≤ length ps → cost_of ps q ≡ Ok (total (take q ps))
 cost-inside ps q h = let t : leb q (length ps) ≡ true = grind (arith, nat_tests) in rw t
@@ -107,15 +100,6 @@ far-back r a b c d e is h =
 pub range_back : (p : ℤ) → InRange p → to_z w64 (of_z w64 p) ≡ p
 range_back p h = omega (arith, ints)
 
--- the lower of a price and a limit, as the machine works it out
-pub min-back : (limit p m : ℤ) → InRange limit → InRange p → m ≡ int_min (to_z w64 (of_z w64 limit)) (to_z w64 (of_z w64 p)) → to_z w64 (of_z w64 m) ≡ int_min limit p
-min-back limit p m h k e =
-    let a = range_back p k in
-    let b = range_back limit h in
-    let is : m ≡ int_min limit p = e ∙ rw (a, b) in
-    let r : InRange m = rw is (grind (arith, ints), grind (arith, ints)) in
-    range_back m r ∙ is
-
 -- the cost under a cap, from the count and the cost below and the cost at the limit, as the machine works it out
 module _ (limit : ℤ) (ps : List ℤ) (q under count : ℕ) (cost r : ℤ) (range : InRange limit) (l : Lawful ps) (h : q ≤ length ps) (counted : count ≡ up_to (to_z w64 (of_z w64 limit)) ps) (least : under ≡ min count q) (below : Ok cost ≡ cost_of ps under) (at : r ≡ pos (q - under) *ℤ to_z w64 (of_z w64 limit)) where
   back : to_z w64 (of_z w64 limit) ≡ limit
@@ -151,9 +135,6 @@ module _ (limit : ℤ) (ps : List ℤ) (q under count : ℕ) (cost r : ℤ) (ran
 
 -- the sum of a price and a number, kept in range as the machine works it out
 module _ (n p : ℤ) (h : InRange p) (d : Difference n) where
-  pub raised-fits : SFits w64 (to_z w64 (of_z w64 p) +ℤ to_z w64 (of_z w64 n))
-  raised-fits = (sum_back p n (omega (arith, ints), omega (arith, ints)) (omega (arith, ints), omega (arith, ints))).0
-
   pub clamp-back : (r : ℤ) → r ≡ int_max (negsuc 99999) (int_min (to_z w64 (of_z w64 (to_z w64 (of_z w64 p) +ℤ to_z w64 (of_z w64 n)))) (pos 100000)) → to_z w64 (of_z w64 r) ≡ clamped (p +ℤ n)
   clamp-back r e =
       let s = (sum_back p n (omega (arith, ints), omega (arith, ints)) (omega (arith, ints), omega (arith, ints))).1 in

@@ -39,10 +39,6 @@ up_to-blocks q (b ∷ bs) = up_to-spread q b bs ∙ ap (λ n. tenths_up_to q b +
 abbrev pub block_at : List Block → ℕ → Block
 block_at bs i = slice_index_or bs i (record { width = 0; price = pos 0 })
 
-module _ (bs : List Block) (i : ℕ) (h : i < length bs) where
-  pub length_from : length (spread (drop i bs)) ≡ (block_at bs i).width + length (spread (drop (i + 1) bs))
-  length_from = at_drop_more (λ xs. length (spread xs)) bs i (block_at [] 0) h ∙ length-spread (block_at bs i) (drop (i + 1) bs)
-
 -- ---- blocks without fault
 
 -- a block of which nothing is wrong
@@ -96,30 +92,6 @@ sound-from i before floor (b ∷ bs) h e =
 -- the first fault, where the number of blocks is right, and by its first block
 pub counted : (bs : List Block) → 1 ≤ length bs → length bs ≤ 10 → fault_from 1 0 lowest_price bs ≡ fault bs
 counted bs h k = let t : (nat_le 1 (length bs) && nat_le (length bs) 10) ≡ true = grind (arith, nat_tests) in rw t
-
-fault-here : (o next : Option CurveRefusal) → is_some o ≡ true → or_else o next ≡ o
-fault-here None next h = grind arith
-fault-here (Some x) next h = refl
-
-fault-next : (o next : Option CurveRefusal) → is_some o ≡ false → (o ≡ None) × (or_else o next ≡ next)
-fault-next None next h = (refl, refl)
-fault-next (Some x) next h = (grind arith, grind arith)
-
--- one block of the check: what it answered of the block at a place, and what then is left to check
-module _ (bs : List Block) (i : ℕ) (h : i < length bs) (n before : ℕ) {z floor : ℤ} (is : z ≡ floor) (o : Option CurveRefusal) (told : o ≡ block_fault (n + 1) before z (block_at bs i)) (left : fault_from (n + 1) before z (drop i bs) ≡ fault bs) where
-  abbrev next : Option CurveRefusal
-  next = fault_from (n + 1 + 1) (before + (block_at bs i).width) (block_at bs i).price (drop (i + 1) bs)
-
-  stands : or_else o next ≡ fault bs
-  stands = ap (λ x. or_else x next) told ∙ sym (at_drop_more (fault_from (n + 1) before z) bs i (block_at [] 0) h) ∙ left
-
-  pub fault-stops : is_some o ≡ true → o ≡ fault bs
-  fault-stops s = sym (fault-here o next s) ∙ stands
-
-  pub fault-goes-on : is_some o ≡ false → (before + (block_at bs i).width ≤ highest_top) × (next ≡ fault bs)
-  fault-goes-on s =
-      let e = fault-next o next s in
-      ((sound-block (n + 1) before z (block_at bs i) (sym told ∙ e.0)).few, sym e.1 ∙ stands)
 
 pub faultless : (bs : List Block) → is_some (fault bs) ≡ false → (1 ≤ length bs) × (length bs ≤ 10) × SoundFrom 0 lowest_price bs
 faultless bs h = go (nat_le 1 (length bs) && nat_le (length bs) 10) refl

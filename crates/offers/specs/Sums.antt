@@ -68,6 +68,3 @@ product-amount n (pos p) h d =
 product-amount n (negsuc p) h d =
     let l : n * suc p ≤ 10000 * 200000 = let k : suc p ≤ 200000 = omega (arith, ints) in mul-le-mul h k in
     (omega (arith, ints), omega (arith, ints))
-
-pub amount-fits : (z : ℤ) → Amount z → FitsSigned w64 z
-amount-fits z h = near_fits 2000000000 z (omega arith) (omega (arith, ints), omega (arith, ints))

@@ -1,16 +1,11 @@
 use Rattle.std.proofs.Common.{arith}
 use Rattle.std.proofs.lemmas.List.{at_drop_all}
 use Rattle.std.proofs.lemmas.Int.{ints}
-use Rattle.offers.specs.Spreads.{spent, spent_all, spent-over, spent-done, spent-more, taken-kept, kept-wide}
+use Rattle.offers.specs.Spreads.{spent, spent_all, spent-over, spent-done, spent-more}
 use Rattle.offers.proofs.blocks.cost_of.Goals as goal
 
 pub loop-block-init : goal.loop-block-init
 loop-block-init c = (spent_all c.args.tenths c.args.blocks.now, (omega (arith, ints), omega (arith, ints)))
-
-pub cost_of_all-cost-requires : goal.cost_of_all-cost-requires
-cost_of_all-cost-requires c =
-    let k = taken-kept c.args.blocks.now c.loop-block.block-index c.loop-block-test.true c.requires.kept c.loop-block.left c.taken_of-taken.result c.taken_of-taken.ensures in
-    record { few = k.0; modest = kept-wide c.taken_of-taken.result k }
 
 pub overflow_add-cost : goal.overflow_add-cost
 overflow_add-cost c = (spent-more _ c.args.blocks.now c.loop-block.block-index c.loop-block-test.true c.requires.few c.requires.kept c.args.tenths c.loop-block.left c.taken_of-taken.result _ c.cost_of_all-cost.result c.taken_of-taken.ensures c.cost_of_all-cost.ensures c.loop-block.invariant.0 c.loop-block.invariant.1).0

@@ -1,16 +1,6 @@
 use Rattle.std.proofs.Common.{◌≤◌, length, arith}
-use lib.ListN.{length-map}
-use Rattle.std.specs.Int.{int_min}
-use Rattle.offers.specs.Piles.{capped}
-use Rattle.offers.proofs.Questions.{cost-beyond, capped_fits, cost-capped}
+use Rattle.offers.proofs.Questions.{capped_fits, cost-capped}
 use Rattle.offers.proofs.capped.CapOfferCurve.cost.Goals as goal
-
-pub returns-then-tenths-top : goal.returns-then-tenths-top
-returns-then-tenths-top g c =
-    let limit = c.args.self.now.limit in
-    let ps = g.C.OfferCurve.prices c.args.self.now.lower in
-    let same = length-map ps (int_min limit) in
-    cost-beyond (capped limit ps) c.args.tenths (omega arith)
 
 pub overflow_add-result : goal.overflow_add-result
 overflow_add-result g c =

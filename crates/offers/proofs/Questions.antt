@@ -4,7 +4,7 @@ use lib.ListN.{length-map}
 use Rattle.std.proofs.ByRecursion.{All-take, All-get_or}
 use Rattle.std.proofs.lemmas.List.{length-take, get_or-map}
 use Rattle.std.proofs.lemmas.Int.{ints, to_z-of_z}
-use Rattle.std.proofs.lemmas.Bool.{and_parts, and_left, and_right, leb-true}
+use Rattle.std.proofs.lemmas.Bool.{and_parts, leb-true}
 use Rattle.std.proofs.lemmas.Bool.Decides.{nat_tests}
 use Rattle.std.specs.Int.{int_min, int_max}
 use Rattle.offers.specs.declared.refusal.CurveRefusal.TheVariants.{NoSuchTenth, AdderOutOfRange}
@@ -250,16 +250,10 @@ module _ (n : ℤ) (ps : List ℤ) (q lifted kept low_count high-count : ℕ) (d
 -- ---- which adders are made
 
 module _ (n : ℤ) (ps : List ℤ) (top : ℕ) (first last : ℤ) (f : SFits w64 n) (l : Lawful ps) (tops : top ≡ length ps) (at_first : Ok first ≡ price_of ps 1) (at_last : Ok last ≡ price_of ps top) where
-  first-sum : to_z w64 (of_z w64 first) +ℤ to_z w64 (of_z w64 n) ≡ first +ℤ n
-  first-sum = let p = range_back first (price-within ps 1 first l at_first) in let q = to_z-of_z w64 n f in rw (p, q)
-
-  last_sum : to_z w64 (of_z w64 last) +ℤ to_z w64 (of_z w64 n) ≡ last +ℤ n
-  last_sum = let p = range_back last (price-within ps top last l at_last) in let q = to_z-of_z w64 n f in rw (p, q)
-
-  by-ends : all_keep n ps ≡ (in_range (to_z w64 (of_z w64 first) +ℤ to_z w64 (of_z w64 n)) && in_range (to_z w64 (of_z w64 last) +ℤ to_z w64 (of_z w64 n)))
-  by-ends = go ps l.some l.rising at_first (at_last ∙ ap (price_of ps) tops) ∙ sym (rw (first-sum, last_sum))
+  by-ends : all_keep n ps ≡ all_keep n (first ∷ last ∷ [])
+  by-ends = go ps l.some l.rising at_first (at_last ∙ ap (price_of ps) tops)
     where
-      go : (ps : List ℤ) → 1 ≤ length ps → Rising ps → Ok first ≡ price_of ps 1 → Ok last ≡ price_of ps (length ps) → all_keep n ps ≡ (in_range (first +ℤ n) && in_range (last +ℤ n))
+      go : (ps : List ℤ) → 1 ≤ length ps → Rising ps → Ok first ≡ price_of ps 1 → Ok last ≡ price_of ps (length ps) → all_keep n ps ≡ all_keep n (first ∷ last ∷ [])
       go [] h r a b = absurd (omega arith)
       go (p ∷ ps) h r a b =
           let x : Ok first ≡ Ok p = a ∙ price-first p ps in
@@ -268,30 +262,27 @@ module _ (n : ℤ) (ps : List ℤ) (top : ℕ) (first last : ℤ) (f : SFits w64
           let is_last : last ≡ last_of p ps = cc in
           rw (is-first, is_last) (keeps-by-ends n p ps r)
 
-  pub adder-unmade-first : (s : Bool) → s ≡ in_range (to_z w64 (of_z w64 first) +ℤ to_z w64 (of_z w64 n)) → s ≡ false → Err AdderOutOfRange ≡ adder_asked n ps
-  adder-unmade-first s a h =
-      let x : in_range (to_z w64 (of_z w64 first) +ℤ to_z w64 (of_z w64 n)) ≡ false = sym a ∙ h in
-      let e : all_keep n ps ≡ false = by-ends ∙ and_left _ _ x in
-      rw e
+  -- the test of the two ends, as the machine works it out
+  module _ (t : Bool) (asked : t ≡ all_keep (to_z w64 (of_z w64 n)) (to_z w64 (of_z w64 first) ∷ to_z w64 (of_z w64 last) ∷ [])) where
+    tested : t ≡ all_keep n ps
+    tested =
+        let p = range_back first (price-within ps 1 first l at_first) in
+        let q = range_back last (price-within ps top last l at_last) in
+        (rw (to_z-of_z w64 n f, p, q) at asked) ∙ sym by-ends
 
-  pub adder-unmade-last : (t : Bool) → t ≡ in_range (to_z w64 (of_z w64 last) +ℤ to_z w64 (of_z w64 n)) → t ≡ false → Err AdderOutOfRange ≡ adder_asked n ps
-  adder-unmade-last t b h =
-      let y : in_range (to_z w64 (of_z w64 last) +ℤ to_z w64 (of_z w64 n)) ≡ false = sym b ∙ h in
-      let e : all_keep n ps ≡ false = by-ends ∙ and_right _ _ y in
-      rw e
+    pub adder-unmade : t ≡ false → Err AdderOutOfRange ≡ adder_asked n ps
+    adder-unmade no' = let e : all_keep n ps ≡ false = sym tested ∙ no' in rw e
 
-  module _ (s t : Bool) (a : s ≡ in_range (to_z w64 (of_z w64 first) +ℤ to_z w64 (of_z w64 n))) (b : t ≡ in_range (to_z w64 (of_z w64 last) +ℤ to_z w64 (of_z w64 n))) (yes-first : s ≡ true) (yes-last : t ≡ true) where
-    pub adder-made : Ok (raised (to_z w64 (of_z w64 n)) ps) ≡ adder_asked n ps
-    adder-made =
-        let e : all_keep n ps ≡ true = by-ends ∙ cc in
-        let back = to_z-of_z w64 n f in
-        rw (back, e, raised-kept n ps e)
+    pub adder-made : t ≡ true → Ok (raised (to_z w64 (of_z w64 n)) ps) ≡ adder_asked n ps
+    adder-made holds =
+        let e : all_keep n ps ≡ true = sym tested ∙ holds in
+        rw (to_z-of_z w64 n f, e, raised-kept n ps e)
 
-    pub adder-modest : Difference (to_z w64 (of_z w64 n))
-    adder-modest =
+    pub adder-modest : t ≡ true → Difference (to_z w64 (of_z w64 n))
+    adder-modest holds =
         let h = price-within ps 1 first l at_first in
-        let k : in_range (first +ℤ n) ≡ true = ap in_range (sym first-sum) ∙ sym a ∙ yes-first in
-        rw (to_z-of_z w64 n f) (modest first n h k)
+        let k : all_keep n (first ∷ last ∷ []) ≡ true = sym by-ends ∙ sym tested ∙ holds in
+        rw (to_z-of_z w64 n f) (modest first n h (and_parts (in_range (first +ℤ n)) _ k).0)
       where
         modest : (p n : ℤ) → InRange p → in_range (p +ℤ n) ≡ true → Difference n
         modest p n h k =

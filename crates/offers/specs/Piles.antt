@@ -1,6 +1,7 @@
 -- Curves over a lower curve: what a cap and an adder make of its prices.
-use Rattle.std.specs.Prelude.{Bool, true, cond, ◌&&◌, List, [], ◌∷◌, map, ℤ, ◌+ℤ◌, Ok, Err, Result}
+use Rattle.std.specs.Prelude.{Bool, cond, List, map, ℤ, ◌+ℤ◌, Ok, Err, Result}
 use Rattle.std.specs.Int.{int_min, int_max}
+use Rattle.std.specs.List.{list_all}
 use Rattle.offers.specs.declared.refusal.CurveRefusal.{CurveRefusal}
 use Rattle.offers.specs.declared.refusal.CurveRefusal.TheVariants.{CapOutOfRange, AdderOutOfRange}
 use Rattle.offers.specs.Prices.{lowest_price, highest_price, in_range}
@@ -23,8 +24,7 @@ raised n ps = map (λ p. clamped (p +ℤ n)) ps
 
 -- Whether every price stays in range when a number is added to it.
 abbrev pub all_keep : ℤ → List ℤ → Bool
-all_keep n [] = true
-all_keep n (p ∷ ps) = in_range (p +ℤ n) && all_keep n ps
+all_keep n ps = list_all (λ p. in_range (p +ℤ n)) ps
 
 -- The curve that an adder is asked for, or its refusal: where it is made, no sum has to be kept in range.
 abbrev pub adder_asked : ℤ → List ℤ → Result (List ℤ) CurveRefusal

@@ -232,14 +232,14 @@ last-get_or p [] = refl
 last-get_or p (x ∷ xs) = last-get_or x xs
 
 -- Whether every sum stays in range shows at the first price and at the last.
-pub keeps-by-ends : (n p : ℤ) (ps : List ℤ) → Rises p ps → all_keep n (p ∷ ps) ≡ (in_range (p +ℤ n) && in_range (last_of p ps +ℤ n))
+pub keeps-by-ends : (n p : ℤ) (ps : List ℤ) → Rises p ps → all_keep n (p ∷ ps) ≡ all_keep n (p ∷ last_of p ps ∷ [])
 keeps-by-ends n p [] r = grind (arith, ints)
 keeps-by-ends n p (x ∷ xs) r =
     let up : p ≤ℤ x = r.0 in
     let over = last-over x xs r.1 in
     rw (keeps-by-ends n x xs r.1) (ends (p +ℤ n) (x +ℤ n) (last_of x xs +ℤ n) (omega (arith, ints)) (omega (arith, ints)))
   where
-    ends : (a b c : ℤ) → a ≤ℤ b → b ≤ℤ c → (in_range a && (in_range b && in_range c)) ≡ (in_range a && in_range c)
+    ends : (a b c : ℤ) → a ≤ℤ b → b ≤ℤ c → (in_range a && (in_range b && (in_range c && true))) ≡ (in_range a && (in_range c && true))
     ends a b c h k = grind (arith, ints)
 
 -- an adder that keeps every sum in range leaves each as it is

@@ -4,7 +4,7 @@ ghost use Rattle.std.specs.Prelude.{◌≡◌, ◌-◌, ◌≤◌, ◌+ℤ◌, �
 ghost use Rattle.offers.specs.Prices.{lowest_price, highest_price, in_range};
 ghost use Rattle.offers.specs.Answers.{then};
 ghost use Rattle.offers.specs.Bounds.{Amount, Difference};
-ghost use Rattle.offers.specs.Piles.{raised, adder_asked};
+ghost use Rattle.offers.specs.Piles.{raised, adder_asked, all_keep};
 ghost use Rattle.offers.specs.PilesLemmas.{lawful-raised};
 
 use super::block::{Block, cost_of_all};
@@ -29,6 +29,13 @@ fn keeps(price: i64, added: i64) -> bool
     LOWEST_PRICE <= sum && sum <= HIGHEST_PRICE
 }
 
+// Whether each of the prices stays in range.
+fn keep_all(prices: &[i64], added: i64) -> bool
+    ensures { result ≡ all_keep added prices.now }
+{
+    prices.iter().all(|price| keeps(*price, added))
+}
+
 impl<C: OfferCurve + Drop> Adder<C> {
     // An adder over a curve, refused where it would take a price out of range.
     pub fn new(lower: C, added: i64) -> Result<Adder<C>, CurveRefusal>
@@ -36,7 +43,8 @@ impl<C: OfferCurve + Drop> Adder<C> {
     {
         let first = lower.price(1)?;
         let last = lower.price(lower.top())?;
-        if keeps(first, added) && keeps(last, added) {
+        // Prices rise, so what the first and the last keep all between them keep.
+        if keep_all(&[first, last], added) {
             Ok(Adder { lower, added })
         } else {
             Err(CurveRefusal::AdderOutOfRange)

@@ -1,6 +1,6 @@
 // What a curve of blocks answers: each question takes one step a block.
 
-ghost use Rattle.std.specs.Prelude.{◌≡◌, ◌≤◌, ◌<◌, ◌^◌, min, length, is_ok, Decides, nat_le, sum_by};
+ghost use Rattle.std.specs.Prelude.{◌≡◌, ◌≤◌, ◌<◌, ◌^◌, min, length, IsOk, ◌↔◌, nat_le, sum_by};
 ghost use Rattle.std.specs.List.{AllByRecursion};
 ghost use Rattle.offers.specs.Prices.{highest_top, top_of, price_of, cost_of};
 ghost use Rattle.offers.specs.Blocks.{spread, fault, block_fault, blocks_asked, tenths_up_to, Offered};
@@ -124,7 +124,7 @@ impl BlockCurve {
     // highest top, a price out of range, and a price below the block before.
     pub fn new(blocks: Vec<Block>) -> Result<BlockCurve, CurveRefusal>
         ensures made { then result (λ c. c.blocks.items) ≡ blocks_asked blocks.items }
-        ensures taken { Decides (is_ok result) (Offered blocks.items) }
+        ensures taken { IsOk result ↔ (Offered blocks.items) }
     {
         let top = checked_top(blocks.as_slice())?;
         Ok(BlockCurve { blocks, top })

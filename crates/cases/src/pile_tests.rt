@@ -1,7 +1,8 @@
 // Caps and adders, executed: which are made, and what piles of them answer.
 
 use super::support::*;
-use offers::{Adder, BlockCurve, Cap};
+use offers::{Adder, BlockCurve, Cap, price_over};
+use quotes::{Pile, PiledCurve};
 use std::alloc::Global;
 use std::test::Fail;
 
@@ -131,4 +132,62 @@ fn four_deep(rt: HostRuntime) -> Result<(), Fail> {
     check_costs(&rt, &pile, &[(200, -19_750_000)])?;
     check_counts(&rt, &pile, &[(-99_001, 0), (-99_000, 100), (-98_500, 200)]);
     check_beyond(&rt, &pile, 200)
+}
+
+// What lies on the blocks of an offer is known once it is read: 100 tenths at the first price, and 100 at the last.
+#[test]
+fn piles_of_offers(rt: HostRuntime) -> Result<(), Fail> {
+    let heap = rt.alloc();
+    let (limit, added) = (2_500, 300);
+    for (pile, first, last, cost) in [
+        (Pile::Bare, 2_000, 3_000, 500_000),
+        (Pile::Cap { limit }, 2_000, 2_500, 450_000),
+        (Pile::Adder { added }, 2_300, 3_300, 560_000),
+        (Pile::CapOverAdder { limit, added }, 2_300, 2_500, 480_000),
+        (Pile::AdderOverCap { added, limit }, 2_300, 2_800, 510_000),
+    ] {
+        let curve = PiledCurve::new(curve_b(heap)?, pile)?;
+        check_prices(
+            &rt,
+            &curve,
+            &[(1, first), (100, first), (101, last), (200, last)],
+        )?;
+        check_costs(&rt, &curve, &[(0, 0), (200, cost)])?;
+        check_counts(&rt, &curve, &[(0, 0), (first, 100), (last, 200)]);
+        check_beyond(&rt, &curve, 200)?;
+    }
+    Ok(())
+}
+
+#[test]
+fn piles_of_offers_refused(rt: HostRuntime) -> Result<(), Fail> {
+    let heap = rt.alloc();
+    for pile in [
+        Pile::Cap { limit: 100_001 },
+        Pile::Adder { added: 97_001 },
+        Pile::CapOverAdder {
+            limit: 2_500,
+            added: 97_001,
+        },
+        Pile::AdderOverCap {
+            added: 300,
+            limit: 100_001,
+        },
+    ] {
+        check_refused(&rt, PiledCurve::new(curve_b(heap)?, pile), 11, 0)?;
+    }
+    Ok(())
+}
+
+#[test]
+fn laid_and_asked_at_once(rt: HostRuntime) -> Result<(), Fail> {
+    let heap = rt.alloc();
+    let capped = price_over::<BlockCurve, Cap<BlockCurve>>(curve_b(heap)?, 2_500, 101);
+    assert_eq!(rt; capped, Ok(2_500));
+    let raised = price_over::<BlockCurve, Adder<BlockCurve>>(curve_b(heap)?, 300, 101);
+    assert_eq!(rt; raised, Ok(3_300));
+    let beyond = price_over::<BlockCurve, Cap<BlockCurve>>(curve_b(heap)?, 2_500, 201);
+    check_refused(&rt, beyond, 13, 201)?;
+    let dear = price_over::<BlockCurve, Adder<BlockCurve>>(curve_b(heap)?, 97_001, 1);
+    check_refused(&rt, dear, 11, 0)
 }

@@ -23,9 +23,3 @@ module _ (ps : List ℤ) (tenths : List ℕ) (i d : ℕ) (points : List Point) (
 pub all-points : (ps : List ℤ) (tenths : List ℕ) (i : ℕ) (points : List Point) (due : Result (List Point) CurveRefusal)
     → length tenths ≤ i → due ≡ then (points_at ps (drop i tenths)) (λ more. points ++ more) → as_refused due ≡ Ok points
 all-points ps tenths i points due past left = ap as_refused (all_asked (point_at ps) tenths i points due past left)
-
-pub one-dispatch : (ps markets : List ℤ) (i : ℕ) (market : ℤ) (dispatch : Dispatch) (found pushed : List Dispatch) → i < length markets → market ≡ get_or markets i (pos 0) → dispatch ≡ dispatch_at ps market
-    → found ≡ map (dispatch_at ps) (take i markets) → pushed ≡ found ++ dispatch ∷ [] → pushed ≡ map (dispatch_at ps) (take (i + 1) markets)
-one-dispatch ps markets i market dispatch found pushed inside same here before e =
-    e ∙ ap (λ ds. ds ++ dispatch ∷ []) before ∙ ap (λ d. map (dispatch_at ps) (take i markets) ++ d ∷ []) (here ∙ ap (dispatch_at ps) same)
-    ∙ sym (map_more (dispatch_at ps) markets i (pos 0) inside)

@@ -1,13 +1,11 @@
 -- The loops over the tenths and the market prices of a quote.
-use Rattle.std.proofs.Common.{◌≡◌, ℕ, ◌+◌, ◌<◌, ◌≤◌, List, [], ◌∷◌, ◌++◌, map, length, get_or, take, drop, ℤ, pos, Ok, Err, Result, sym, ap, ◌∙◌}
-use Rattle.std.proofs.lemmas.List.{map_more}
+use Rattle.std.proofs.Common.{◌≡◌, ℕ, ◌+◌, ◌<◌, ◌≤◌, List, [], ◌∷◌, ◌++◌, length, get_or, drop, ℤ, Ok, Err, Result, ap}
 use Rattle.offers.specs.declared.refusal.CurveRefusal.{CurveRefusal}
 use Rattle.quotes.specs.declared.fault.OfferFault.{OfferFault}
-use Rattle.quotes.specs.declared.pricing.Dispatch.{Dispatch}
 use Rattle.quotes.specs.declared.pricing.Point.{Point}
 use Rattle.offers.specs.Answers.{then}
 use Rattle.quotes.specs.Answers.{as_refused}
-use Rattle.quotes.specs.Quotes.{dispatch_at, point_at, points_at}
+use Rattle.quotes.specs.Quotes.{point_at, points_at}
 use Rattle.quotes.proofs.EachLoop.{one_more as another, stops as stopped, all_asked}
 use Rattle.quotes.proofs.Faulting.{refused-ok, refused-on}
 

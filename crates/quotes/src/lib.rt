@@ -3,6 +3,7 @@
 
 #![tactic(auto)]
 
+mod capped_blocks;
 mod fault;
 mod lines;
 mod offer;
@@ -13,6 +14,7 @@ mod unit;
 mod unit_fault;
 mod unit_lines;
 
+pub use capped_blocks::CappedBlocks;
 pub use fault::{LineFault, OfferFault};
 pub use offer::{Offer, Pile, read_offer};
 pub use piled::PiledCurve;

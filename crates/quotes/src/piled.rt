@@ -2,47 +2,49 @@
 
 ghost use Rattle.std.specs.Prelude.{◌≡◌};
 ghost use Rattle.offers.specs.Answers.{then};
+ghost use Rattle.offers.specs.Blocks.{spread};
 ghost use Rattle.quotes.specs.Piled.{lawful-piled, piled_prices};
 ghost use Rattle.quotes.specs.Quotes.{piled};
 
+use super::capped_blocks::CappedBlocks;
 use super::offer::Pile;
-use offers::{Adder, Cap, CurveRefusal, OfferCurve};
+use offers::{Adder, BlockCurve, Cap, CurveRefusal, OfferCurve};
 
-// A curve with what lies on it.
+// A curve of blocks with what lies on it.
 #[derive(Drop)]
-pub enum PiledCurve<C> {
-    Bare(C),
-    Cap(Cap<C>),
-    Adder(Adder<C>),
-    CapOverAdder(Cap<Adder<C>>),
-    AdderOverCap(Adder<Cap<C>>),
+pub enum PiledCurve {
+    Bare(BlockCurve),
+    Cap(CappedBlocks),
+    Adder(Adder<BlockCurve>),
+    CapOverAdder(Cap<Adder<BlockCurve>>),
+    AdderOverCap(Adder<CappedBlocks>),
 }
 
-impl<C: OfferCurve + Drop> PiledCurve<C> {
-    // Lays a pile on a curve, or answers the refusal of the cap or the adder that cannot be laid.
-    pub fn new(curve: C, pile: Pile) -> Result<PiledCurve<C>, CurveRefusal>
-        ensures { then result (piled_prices C.prices) ≡ piled pile (C.prices curve) }
+impl PiledCurve {
+    // Lays a pile on a curve of blocks, or answers the refusal of the cap or the adder that cannot be laid.
+    pub fn new(curve: BlockCurve, pile: Pile) -> Result<PiledCurve, CurveRefusal>
+        ensures { then result piled_prices ≡ piled pile (spread curve.blocks.items) }
     {
         match pile {
             Pile::Bare => Ok(PiledCurve::Bare(curve)),
-            Pile::Cap { limit } => Ok(PiledCurve::Cap(Cap::new(curve, limit)?)),
+            Pile::Cap { limit } => Ok(PiledCurve::Cap(CappedBlocks::new(curve, limit)?)),
             Pile::Adder { added } => Ok(PiledCurve::Adder(Adder::new(curve, added)?)),
             Pile::CapOverAdder { limit, added } => {
                 let raised = Adder::new(curve, added)?;
                 Ok(PiledCurve::CapOverAdder(Cap::new(raised, limit)?))
             }
             Pile::AdderOverCap { added, limit } => {
-                let capped = Cap::new(curve, limit)?;
+                let capped = CappedBlocks::new(curve, limit)?;
                 Ok(PiledCurve::AdderOverCap(Adder::new(capped, added)?))
             }
         }
     }
 }
 
-impl<C: OfferCurve> OfferCurve for PiledCurve<C> {
-    ghost prices = { piled_prices C.OfferCurve.prices };
+impl OfferCurve for PiledCurve {
+    ghost prices = { piled_prices };
 
-    ghost lawful = { lawful-piled C.OfferCurve.prices C.OfferCurve.lawful };
+    ghost lawful = { lawful-piled };
 
     fn top(&self) -> u64 {
         match self {

@@ -124,10 +124,5 @@ pub fn price_offer(heap: Global, offer: &Offer) -> Result<Quote, OfferFault>
     let curve = block_curve(heap, offer)?;
     let ends = block_ends(heap, &curve)?;
     let piled = PiledCurve::new(curve, offer.pile)?;
-    quote_at(
-        heap,
-        &piled,
-        ends.as_slice(),
-        offer.markets.as_slice(),
-    )
+    quote_at(heap, &piled, ends.as_slice(), offer.markets.as_slice())
 }

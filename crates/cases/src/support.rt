@@ -1,7 +1,9 @@
 // What the tests share: lines, curves made of pairs, and answers compared with tables.
 
 use offers::{Block, BlockCurve, CurveRefusal, Layer, OfferCurve, Refusal};
+use quotes::{LineFault, OfferFault};
 use std::alloc::{AllocError, Global};
+use std::fmt::Debug;
 use std::process::Abort;
 use std::test::Fail;
 
@@ -10,6 +12,22 @@ pub(super) fn lines_of(heap: Global, text: &str) -> Result<Vec<String>, AllocErr
     text.lines()
         .map(|line| String::from_str(heap, line))
         .try_collect(heap)
+}
+
+pub(super) fn line(number: u64, fault: LineFault) -> OfferFault {
+    OfferFault::Line { number, fault }
+}
+
+// That each text is at fault as its row says.
+pub(super) fn check_faults<
+    E: From<OfferFault> + PartialEq + Debug + Drop,
+    F: Fn(&str) -> Option<E>,
+>(rt: &impl Abort, fault_of: F, table: &[(&str, OfferFault)])
+    requires { F.IsAlwaysCallable fault_of }
+{
+    for (text, fault) in table {
+        assert_eq!(rt; fault_of(text), Some(E::from(*fault)));
+    }
 }
 
 // The curve of blocks given as width and price, or its refusal.

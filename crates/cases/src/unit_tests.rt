@@ -24,25 +24,6 @@ fn statement_of(heap: Global, text: &str) -> Result<Statement, UnitFault> {
     Ok(settle_unit(heap, &unit)?)
 }
 
-// That each text is faulty, on which line.
-fn check_lines(rt: &impl Abort, heap: Global, table: &[(&str, u64, LineFault)]) {
-    for (text, number, fault) in table {
-        let due = OfferFault::Line {
-            number: *number,
-            fault: *fault,
-        };
-        assert_eq!(rt; statement_of(heap, text).err(), Some(UnitFault::Offer(due)));
-    }
-}
-
-// That an offer of each text is refused.
-fn check_refusals(rt: &impl Abort, heap: Global, table: &[(&str, CurveRefusal)]) {
-    for (text, refusal) in table {
-        let due = OfferFault::Refused(*refusal);
-        assert_eq!(rt; statement_of(heap, text).err(), Some(UnitFault::Offer(due)));
-    }
-}
-
 // That the line is a second one of its kind.
 fn check_second(rt: &impl Abort, heap: Global, text: &str, fault: UnitFault) {
     assert_eq!(rt; statement_of(heap, text).err(), Some(fault));
@@ -65,23 +46,25 @@ fn interval(amounts: Amounts, economic_point: u64) -> Option<Result<RucStatement
 
 #[test]
 fn wrong_record_lines(rt: HostRuntime) {
-    check_lines(
+    check_faults(
         &rt,
-        rt.alloc(),
+        |text| statement_of(rt.alloc(), text).err(),
         &[
-            ("day-ahead", 1, LineFault::WordCount),
-            ("day-ahead 1 2 3 4", 1, LineFault::WordCount),
-            ("day-ahead 1 2 3 4 5 6", 1, LineFault::WordCount),
-            ("ruc 1 2 3 4 5 6 7 8 9 10", 1, LineFault::WordCount),
-            ("ruc 1 2 3 4 5 6 7 8 9 10 11 12", 1, LineFault::WordCount),
-            ("current 1", 1, LineFault::WordCount),
-            ("current-offer", 1, LineFault::UnknownItem),
-            ("day-ahead x 2 3 4", 1, LineFault::WordCount),
-            ("day-ahead 1 2 3 4 x", 1, LineFault::NotANumber),
+            ("day-ahead", line(1, LineFault::WordCount)),
+            ("day-ahead 1 2 3 4", line(1, LineFault::WordCount)),
+            ("day-ahead 1 2 3 4 5 6", line(1, LineFault::WordCount)),
+            ("ruc 1 2 3 4 5 6 7 8 9 10", line(1, LineFault::WordCount)),
+            (
+                "ruc 1 2 3 4 5 6 7 8 9 10 11 12",
+                line(1, LineFault::WordCount),
+            ),
+            ("current 1", line(1, LineFault::WordCount)),
+            ("current-offer", line(1, LineFault::UnknownItem)),
+            ("day-ahead x 2 3 4", line(1, LineFault::WordCount)),
+            ("day-ahead 1 2 3 4 x", line(1, LineFault::NotANumber)),
             (
                 "\nruc 9223372036854775808 2 3 4 5 6 7 8 9 10 11",
-                2,
-                LineFault::NotANumber,
+                line(2, LineFault::NotANumber),
             ),
         ],
     );
@@ -108,36 +91,35 @@ fn second_lines(rt: HostRuntime) {
         "ruc 1 2 3 4 5 6 7 8 9 10 11\nruc 1 2 3 4 5 6 7 8 9 10 11",
         UnitFault::SecondRuc(2),
     );
-    check_lines(
+    check_faults(
         &rt,
-        heap,
-        &[("cap 1\ncurrent\ncap 2\ncap 3", 4, LineFault::SecondCap)],
+        |text| statement_of(heap, text).err(),
+        &[(
+            "cap 1\ncurrent\ncap 2\ncap 3",
+            line(4, LineFault::SecondCap),
+        )],
     );
 }
 
 #[test]
 fn first_fault_first(rt: HostRuntime) {
     let heap = rt.alloc();
-    check_lines(
+    check_faults(
         &rt,
-        heap,
+        |text| statement_of(heap, text).err(),
         &[
             (
                 "day-ahead 1 2 3 4 5\nday-ahead 1\nruc",
-                2,
-                LineFault::WordCount,
+                line(2, LineFault::WordCount),
             ),
-            ("block 0 1\nruc x", 2, LineFault::WordCount),
-        ],
-    );
-    check_refusals(
-        &rt,
-        heap,
-        &[
-            ("block 0 1\ncurrent", CurveRefusal::EmptyBlock(1)),
+            ("block 0 1\nruc x", line(2, LineFault::WordCount)),
+            (
+                "block 0 1\ncurrent",
+                OfferFault::Refused(CurveRefusal::EmptyBlock(1)),
+            ),
             (
                 "block 1 0\ncap 100001\ncurrent",
-                CurveRefusal::CapOutOfRange,
+                OfferFault::Refused(CurveRefusal::CapOutOfRange),
             ),
         ],
     );
@@ -145,17 +127,17 @@ fn first_fault_first(rt: HostRuntime) {
 
 #[test]
 fn refused_current_offers(rt: HostRuntime) {
-    check_refusals(
+    check_faults(
         &rt,
-        rt.alloc(),
+        |text| statement_of(rt.alloc(), text).err(),
         &[
             (
                 "block 100 2000\ncurrent\nday-ahead 50 0 0 0 0",
-                CurveRefusal::BlockCount,
+                OfferFault::Refused(CurveRefusal::BlockCount),
             ),
             (
                 "block 1 0\ncurrent\nblock 1 99000\nadder 1001",
-                CurveRefusal::AdderOutOfRange,
+                OfferFault::Refused(CurveRefusal::AdderOutOfRange),
             ),
         ],
     );
@@ -256,42 +238,60 @@ fn refused_records(rt: HostRuntime) -> Result<(), Fail> {
 // An offer alone is a unit without records.
 #[test]
 fn wrong_lines_of_an_offer_alone(rt: HostRuntime) {
-    check_lines(
+    check_faults(
         &rt,
-        rt.alloc(),
+        |text| statement_of(rt.alloc(), text).err(),
         &[
-            ("# an offer\n\nblocks 1 2\n", 3, LineFault::UnknownItem),
-            ("block 1", 1, LineFault::WordCount),
-            ("block 1 2\n  cap 3 4", 2, LineFault::WordCount),
-            ("block -1 2", 1, LineFault::NotANumber),
-            ("block 1 2\nmarket 3x", 2, LineFault::NotANumber),
-            ("cap 1\nadder 2\ncap 1", 3, LineFault::SecondCap),
-            ("adder 1\n# more\nadder 1", 3, LineFault::SecondAdder),
-            ("block 18446744073709551616 0", 1, LineFault::NotANumber),
-            ("market -9223372036854775809", 1, LineFault::NotANumber),
-            ("market 9223372036854775808", 1, LineFault::NotANumber),
+            (
+                "# an offer\n\nblocks 1 2\n",
+                line(3, LineFault::UnknownItem),
+            ),
+            ("block 1", line(1, LineFault::WordCount)),
+            ("block 1 2\n  cap 3 4", line(2, LineFault::WordCount)),
+            ("block -1 2", line(1, LineFault::NotANumber)),
+            ("block 1 2\nmarket 3x", line(2, LineFault::NotANumber)),
+            ("cap 1\nadder 2\ncap 1", line(3, LineFault::SecondCap)),
+            ("adder 1\n# more\nadder 1", line(3, LineFault::SecondAdder)),
+            (
+                "block 18446744073709551616 0",
+                line(1, LineFault::NotANumber),
+            ),
+            (
+                "market -9223372036854775809",
+                line(1, LineFault::NotANumber),
+            ),
+            ("market 9223372036854775808", line(1, LineFault::NotANumber)),
         ],
     );
 }
 
 #[test]
 fn refused_offers_alone(rt: HostRuntime) {
-    check_refusals(
+    check_faults(
         &rt,
-        rt.alloc(),
+        |text| statement_of(rt.alloc(), text).err(),
         &[
-            ("", CurveRefusal::BlockCount),
-            ("block 18446744073709551615 0", CurveRefusal::TooWide(1)),
+            ("", OfferFault::Refused(CurveRefusal::BlockCount)),
+            (
+                "block 18446744073709551615 0",
+                OfferFault::Refused(CurveRefusal::TooWide(1)),
+            ),
             (
                 "block 1 -9223372036854775808",
-                CurveRefusal::PriceOutOfRange(1),
+                OfferFault::Refused(CurveRefusal::PriceOutOfRange(1)),
             ),
             (
                 "block 100 3000\nblock 100 2000",
-                CurveRefusal::PriceFalls(2),
+                OfferFault::Refused(CurveRefusal::PriceFalls(2)),
             ),
-            ("block 1 0\ncap 100001", CurveRefusal::CapOutOfRange),
-            ("block 1 99000\nadder 1001", CurveRefusal::AdderOutOfRange),
+            (
+                "block 1 0\ncap 100001",
+                OfferFault::Refused(CurveRefusal::CapOutOfRange),
+            ),
+            (
+                "block 1 99000\nadder 1001",
+                OfferFault::Refused(CurveRefusal::AdderOutOfRange),
+            ),
         ],
     );
 }

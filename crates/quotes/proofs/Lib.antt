@@ -5,6 +5,6 @@ pub mod QuoteLoop
 pub mod Readings
 pub mod LineLoop
 pub mod Sequences
+pub mod Spelled
 pub mod Splits
 pub mod Readers
-pub mod UnitSequences

@@ -31,11 +31,11 @@ abbrev pub is_short : ℤ → Bool
 is_short n = int_le (negsuc 9223372036854775807) n && int_le n (pos 9223372036854775807)
 
 -- A number is its digits, after a sign or none.
-abbrev pub number_of : List ℕ → Result ℤ LineFault
+unfoldable pub number_of : List ℕ → Result ℤ LineFault
 number_of word = cond (is_numeral (without_leading_sign word) && is_short (signed_digits_value 10 word)) (Ok (signed_digits_value 10 word)) (Err NotANumber)
 
 -- A width has no minus, and is a u64.
-abbrev pub width_of : List ℕ → Result ℕ LineFault
+unfoldable pub width_of : List ℕ → Result ℕ LineFault
 width_of word = cond (is_numeral (without_leading_plus word) && nat_lt (digits_value 10 (without_leading_plus word)) (2 ^ 64)) (Ok (digits_value 10 (without_leading_plus word))) (Err NotANumber)
 
 abbrev pub only_number : List (List ℕ) → Result ℤ LineFault

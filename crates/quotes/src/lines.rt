@@ -32,19 +32,13 @@ pub(crate) fn words(heap: Global, text: &str) -> Result<Vec<&str>, AllocError>
 pub(crate) fn number(word: &str) -> Result<i64, LineFault>
     ensures { result ≡ number_of word.now }
 {
-    match word.parse::<i64>() {
-        Ok(number) => Ok(number),
-        Err(_) => Err(LineFault::NotANumber),
-    }
+    word.parse::<i64>().map_err(|_| LineFault::NotANumber)
 }
 
 fn width(word: &str) -> Result<u64, LineFault>
     ensures { result ≡ width_of word.now }
 {
-    match word.parse::<u64>() {
-        Ok(width) => Ok(width),
-        Err(_) => Err(LineFault::NotANumber),
-    }
+    word.parse::<u64>().map_err(|_| LineFault::NotANumber)
 }
 
 fn only_number(words: &[&str]) -> Result<i64, LineFault>
@@ -93,13 +87,17 @@ fn item_of(words: &[&str]) -> Result<Option<Item>, LineFault>
     Ok(Some(item_from(kind, rest)?))
 }
 
+// A fault of a line carries the line's number.
+pub(crate) fn at_line<T>(number: u64, answer: Result<T, LineFault>) -> Result<T, OfferFault>
+    ensures { result ≡ at_line number answer }
+{
+    answer.map_err(|fault| OfferFault::Line { number, fault })
+}
+
 // The item of a line, or its fault under the line's number.
 pub(crate) fn read_line(heap: Global, number: u64, text: &str) -> Result<Option<Item>, OfferFault>
     ensures { Answers (λ x. x) result (at_line number (item_of (words_of text.now))) }
 {
     let words = words(heap, text)?;
-    match item_of(words.as_slice()) {
-        Ok(item) => Ok(item),
-        Err(fault) => Err(OfferFault::Line { number, fault }),
-    }
+    at_line(number, item_of(words.as_slice()))
 }

@@ -6,7 +6,7 @@ ghost use Rattle.quotes.specs.Answers.{Answers, at_line};
 ghost use Rattle.quotes.specs.Offers.{adder_laid, asked, cap_laid, laid, line_taken, nothing, offer_read, taking};
 
 use super::fault::{LineFault, OfferFault};
-use super::lines::{Item, read_line};
+use super::lines::{Item, at_line, read_line};
 use offers::Block;
 use std::alloc::Global;
 
@@ -60,29 +60,17 @@ impl Offer {
         }
     }
 
-    // Lays a cap or an adder over the pile, or leaves it with the fault of the line.
-    fn lay(&mut self, number: u64, pile: Result<Pile, LineFault>) -> Result<(), OfferFault>
-        ensures { Answers (λ _. asked self.new) result (at_line number (then pile (laid (asked self.old)))) }
-    {
-        match pile {
-            Ok(pile) => {
-                self.pile = pile;
-                Ok(())
-            }
-            Err(fault) => Err(OfferFault::Line { number, fault }),
-        }
-    }
-
     // Takes the item of a line.
     pub(crate) fn take(&mut self, number: u64, item: Item) -> Result<(), OfferFault>
         ensures { Answers (λ _. asked self.new) result (at_line number (taking item (asked self.old))) }
     {
         match item {
-            Item::Block(block) => Ok(self.blocks.push(block)?),
-            Item::Market(price) => Ok(self.markets.push(price)?),
-            Item::Cap(limit) => self.lay(number, self.pile.with_cap(limit)),
-            Item::Adder(added) => self.lay(number, self.pile.with_adder(added)),
+            Item::Block(block) => self.blocks.push(block)?,
+            Item::Market(price) => self.markets.push(price)?,
+            Item::Cap(limit) => self.pile = at_line(number, self.pile.with_cap(limit))?,
+            Item::Adder(added) => self.pile = at_line(number, self.pile.with_adder(added))?,
         }
+        Ok(())
     }
 
     fn take_line(&mut self, heap: Global, number: u64, text: &str) -> Result<(), OfferFault>

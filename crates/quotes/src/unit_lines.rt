@@ -6,7 +6,7 @@ ghost use Rattle.quotes.specs.Lines.{words_of};
 ghost use Rattle.quotes.specs.UnitLines.{current_of, unit_item_from, unit_item_of};
 
 use super::fault::{LineFault, OfferFault};
-use super::lines::{Item, item_from, words};
+use super::lines::{Item, at_line, item_from, words};
 use super::records::{day_ahead_of, ruc_of};
 use market::{DayAheadRecord, RucRecord};
 use std::alloc::Global;
@@ -63,8 +63,5 @@ pub(crate) fn read_unit_line(
     ensures { Answers (λ x. x) result (at_line number (unit_item_of (words_of text.now))) }
 {
     let words = words(heap, text)?;
-    match unit_item_of(words.as_slice()) {
-        Ok(item) => Ok(item),
-        Err(fault) => Err(OfferFault::Line { number, fault }),
-    }
+    at_line(number, unit_item_of(words.as_slice()))
 }

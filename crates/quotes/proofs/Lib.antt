@@ -2,9 +2,6 @@ pub mod EachLoop
 pub mod Ends
 pub mod Faulting
 pub mod QuoteLoop
-pub mod Readings
-pub mod LineLoop
-pub mod Sequences
+pub mod Numbers
 pub mod Spelled
 pub mod Splits
-pub mod Readers

@@ -1,12 +1,14 @@
 -- The words of a text that is split at blanks.
-use Rattle.std.proofs.Common.{◌≡◌, ℕ, suc, ◌<◌, Bool, true, false, cond, eqb, List, [], ◌∷◌, ◌++◌, length, get_or, take, drop, Some, None, sym, refl, ap, ◌∙◌, subst, append_assoc, arith, Bor}
+use Rattle.std.proofs.Common.{◌≡◌, ℕ, suc, ◌<◌, Bool, true, false, cond, eqb, List, [], ◌∷◌, ◌++◌, map, length, get_or, take, drop, Some, None, sym, refl, ap, ◌∙◌, subst, append_assoc, arith, Bor}
 use Rattle.std.specs.Str.Pattern.{IsSplitAtFirstMatch, FindsChar}
 use Rattle.std.specs.Str.{NoCharPasses}
 use Rattle.std.proofs.lemmas.List.{append-nil, take-append-drop, map_push, nil_from_length}
 use Rattle.std.proofs.lemmas.Str.Pattern.{NoCharPasses-char, drop_at_char}
 use Rattle.std.proofs.lemmas.Bool.{ne_eqb, eqb-false, eqb-true}
-use Rattle.quotes.proofs.Sequences.{texts}
 use Rattle.quotes.specs.Lines.{ended, words_after, words_of}
+
+abbrev pub texts : List (Bor (List ℕ)) → List (List ℕ)
+texts ws = map (λ x. x.now) ws
 
 abbrev Blankless : List ℕ → Type 0
 Blankless bs = (k : ℕ) → k < length bs → get_or bs k 0 ≡ 32 → ⊥

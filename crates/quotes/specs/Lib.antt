@@ -2,6 +2,7 @@ pub mod Answers
 pub mod Lines
 pub mod Offers
 pub mod Quotes
+pub mod Readings
 pub mod Records
 pub mod Sentences
 pub mod UnitAnswers

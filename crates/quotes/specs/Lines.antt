@@ -58,7 +58,7 @@ item_from kind words =
     (cond (bytes_eq kind (codes "market")) (then (only_number words) MarketItem)
     (Err UnknownItem))))
 
--- The item that a line's words give. A blank line and a comment, which begins with #, give none.
-abbrev pub item_of : List (List ℕ) → Result (Option Item) LineFault
-item_of [] = Ok None
-item_of (kind ∷ words) = cond (slice_index kind 0 == 35) (Ok None) (then (item_from kind words) Some)
+-- The item that a line's words give, as its kind is read. A blank line and a comment, which begins with #, give none.
+abbrev pub item_of : {T : Type 0} → (List ℕ → List (List ℕ) → Result T LineFault) → List (List ℕ) → Result (Option T) LineFault
+item_of from_words [] = Ok None
+item_of from_words (kind ∷ words) = cond (slice_index kind 0 == 35) (Ok None) (then (from_words kind words) Some)

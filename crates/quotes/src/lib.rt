@@ -7,6 +7,7 @@ mod fault;
 mod lines;
 mod offer;
 mod pricing;
+mod readings;
 mod records;
 mod unit;
 mod unit_fault;

@@ -1,12 +1,12 @@
 // An offer, taken item by item from its lines.
 
 ghost use Rattle.std.specs.Prelude.{◌≡◌, map, string_bytes};
-ghost use Rattle.offers.specs.Answers.{then};
-ghost use Rattle.quotes.specs.Answers.{Answers, at_line};
-ghost use Rattle.quotes.specs.Offers.{adder_laid, asked, cap_laid, laid, line_taken, nothing, offer_read, taking};
+ghost use Rattle.quotes.specs.Answers.{Answers};
+ghost use Rattle.quotes.specs.Offers.{Asked, adder_laid, asked, cap_laid, item_taken, nothing, offer_read};
 
 use super::fault::{LineFault, OfferFault};
-use super::lines::{Item, at_line, read_line};
+use super::lines::{Item, at_line};
+use super::readings::{Reading, read_lines};
 use offers::Block;
 use std::alloc::Global;
 
@@ -59,11 +59,22 @@ impl Offer {
             markets: Vec::new(heap),
         }
     }
+}
 
-    // Takes the item of a line.
-    pub(crate) fn take(&mut self, number: u64, item: Item) -> Result<(), OfferFault>
-        ensures { Answers (λ _. asked self.new) result (at_line number (taking item (asked self.old))) }
-    {
+impl Reading for Offer {
+    type Item = Item;
+
+    type Fault = OfferFault;
+
+    ghost Asked = { Asked };
+
+    ghost asked = { asked };
+
+    ghost of_offer = { λ fault. fault };
+
+    ghost taking = { item_taken };
+
+    fn take(&mut self, _heap: Global, number: u64, item: Item) -> Result<(), OfferFault> {
         match item {
             Item::Block(block) => self.blocks.push(block)?,
             Item::Market(price) => self.markets.push(price)?,
@@ -73,23 +84,12 @@ impl Offer {
         Ok(())
     }
 
-    fn take_line(&mut self, heap: Global, number: u64, text: &str) -> Result<(), OfferFault>
-        ensures { Answers (λ _. asked self.new) result (at_line number (line_taken (asked self.old) text.now)) }
-    {
-        match read_line(heap, number, text)? {
-            Some(item) => self.take(number, item),
-            None => Ok(()),
-        }
-    }
+    ghost converts_by = { λ fault own same. same };
 }
 
 // The offer that the lines make, or the first fault.
 pub fn read_offer(heap: Global, lines: &[String]) -> Result<Offer, OfferFault>
     ensures { Answers asked result (offer_read 1 nothing (map string_bytes lines.now)) }
 {
-    let mut offer = Offer::new(heap);
-    for (i, line) in lines.iter().enumerate() {
-        offer.take_line(heap, i as u64 + 1, line.as_str())?;
-    }
-    Ok(offer)
+    read_lines(heap, lines, Offer::new(heap))
 }

@@ -1,5 +1,5 @@
 use Rattle.std.proofs.Common.{rules}
-use Rattle.quotes.proofs.Readings.{number_told}
+use Rattle.quotes.proofs.Numbers.{number_told}
 use Rattle.quotes.proofs.lines.number.Goals as goal
 
 pub returns : goal.returns

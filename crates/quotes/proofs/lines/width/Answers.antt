@@ -1,5 +1,5 @@
 use Rattle.std.proofs.Common.{rules}
-use Rattle.quotes.proofs.Readings.{width_told}
+use Rattle.quotes.proofs.Numbers.{width_told}
 use Rattle.quotes.proofs.lines.width.Goals as goal
 
 pub returns : goal.returns

@@ -1,7 +1,6 @@
 use Rattle.std.proofs.Common.{◌++◌, vec_items, sym, ap, ◌∙◌}
 use Rattle.std.specs.Str.Iter.{split_text, split_has_more, split_pattern}
-use Rattle.quotes.proofs.Sequences.{texts}
-use Rattle.quotes.proofs.Splits.{none_yet, word-found, no_word, no_more, words_left}
+use Rattle.quotes.proofs.Splits.{none_yet, word-found, no_word, no_more, texts, words_left}
 use Rattle.quotes.proofs.lines.words.Goals as goal
 
 pub loop-word-init : goal.loop-word-init

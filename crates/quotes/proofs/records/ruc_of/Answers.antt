@@ -1,8 +1,7 @@
-use Rattle.std.proofs.Common.{◌≡◌, List, [], ◌∷◌, ℕ, ℤ, length, get_or, Ok, Bor, arith, ltb-false, ltb-true, w64, to_z, of_z, refl}
+use Rattle.std.proofs.Common.{◌≡◌, List, [], map, ◌∷◌, ℕ, ℤ, length, get_or, Ok, Bor, arith, ltb-false, ltb-true, w64, to_z, of_z, refl}
 use Rattle.quotes.specs.Lines.{number_of}
 use Rattle.quotes.specs.Records.{ruc_from, ruc_of}
-use Rattle.quotes.proofs.Readings.{kept}
-use Rattle.quotes.proofs.Sequences.{texts}
+use Rattle.quotes.proofs.Numbers.{kept}
 use Rattle.quotes.proofs.Spelled.{spelled}
 use Rattle.quotes.proofs.records.ruc_of.Goals as goal
 
@@ -22,7 +21,7 @@ eleven_read : (ws : List (Bor (List ℕ))) (w : Bor (List ℕ)) (a b c d e f g h
     → Ok i ≡ number_of (get_or ws 8 w).now
     → Ok j ≡ number_of (get_or ws 9 w).now
     → Ok k ≡ number_of (get_or ws 10 w).now
-    → Ok (ruc_from (held a ∷ held b ∷ held c ∷ held d ∷ held e ∷ held f ∷ held g ∷ held h ∷ held i ∷ held j ∷ held k ∷ [])) ≡ ruc_of (texts ws)
+    → Ok (ruc_from (held a ∷ held b ∷ held c ∷ held d ∷ held e ∷ held f ∷ held g ∷ held h ∷ held i ∷ held j ∷ held k ∷ [])) ≡ ruc_of (map (λ x. x.now) ws)
 eleven_read ws w a b c d e f g h i j k eleven ha hb hc hd he hf hg hh hi hj hk =
     simp (kept _ _ ha, kept _ _ hb, kept _ _ hc, kept _ _ hd, kept _ _ he, kept _ _ hf, kept _ _ hg, kept _ _ hh, kept _ _ hi, kept _ _ hj, kept _ _ hk)
     (rw (spelled (λ (x : Bor (List ℕ)). x.now) ws w 11 eleven, ← ha, ← hb, ← hc, ← hd, ← he, ← hf, ← hg, ← hh, ← hi, ← hj, ← hk) refl)

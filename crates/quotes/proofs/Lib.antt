@@ -4,4 +4,3 @@ pub mod Faulting
 pub mod QuoteLoop
 pub mod Numbers
 pub mod Spelled
-pub mod Splits

@@ -1,5 +1,6 @@
 -- The words of a line, and the item that they give.
-use Rattle.std.specs.Prelude.{ℕ, ◌^◌, Bool, cond, ◌&&◌, List, [], ◌∷◌, ◌++◌, length, ℤ, pos, negsuc, Some, None, Ok, Err, codes, Option, Result, ◌==◌, int_le, nat_lt, slice_index}
+use Rattle.std.specs.Prelude.{ℕ, ◌^◌, Bool, cond, ◌&&◌, List, [], ◌∷◌, length, not, filter, ℤ, pos, negsuc, Some, None, Ok, Err, codes, Option, Result, ◌==◌, int_le, nat_lt, slice_index}
+use Rattle.std.specs.List.{slice_split}
 use Rattle.std.specs.Str.Parse.{digits_value, without_leading_plus, without_leading_sign, signed_digits_value}
 use Rattle.std.specs.Str.{all_ascii_digits, bytes_eq}
 use Rattle.offers.specs.declared.block.Block.{Block}
@@ -9,19 +10,9 @@ use Rattle.quotes.specs.declared.lines.Item.{Item}
 use Rattle.quotes.specs.declared.lines.Item.TheVariants.{Block as BlockItem, Adder as AdderItem, Cap as CapItem, Market as MarketItem}
 use Rattle.offers.specs.Answers.{bind, then}
 
--- A word that has no byte is none.
-abbrev pub ended : List ℕ → List (List ℕ) → List (List ℕ)
-ended [] rest = rest
-ended (c ∷ word) rest = (c ∷ word) ∷ rest
-
--- The words of a text, after the part of a word that was read before it.
-abbrev pub words_after : List ℕ → List ℕ → List (List ℕ)
-words_after word [] = ended word []
-words_after word (c ∷ cs) = cond (c == 32) (ended word (words_after [] cs)) (words_after (word ++ c ∷ []) cs)
-
 -- The words of a line: what stands between blanks.
 abbrev pub words_of : List ℕ → List (List ℕ)
-words_of bs = words_after [] bs
+words_of bs = filter (λ word. not (length word == 0)) (slice_split (λ c. c == 32) bs)
 
 abbrev pub is_numeral : List ℕ → Bool
 is_numeral ds = nat_lt 0 (length ds) && all_ascii_digits ds

@@ -29,13 +29,9 @@ pub enum Item {
 pub(crate) fn words(heap: Global, text: &str) -> Result<Vec<&str>, AllocError>
     ensures { IfOk result (λ v. map (λ x. x.now) v.items ≡ words_of text.now) }
 {
-    let mut found = Vec::new(heap);
-    for word in text.split(' ') {
-        if !word.is_empty() {
-            found.push(word)?;
-        }
-    }
-    Ok(found)
+    text.split(' ')
+        .filter(|word| !word.is_empty())
+        .collect(heap)
 }
 
 pub(crate) fn number(word: &str) -> Result<i64, LineFault>

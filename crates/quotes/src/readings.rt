@@ -52,8 +52,8 @@ pub(crate) fn read_lines<R: Reading>(
 ) -> Result<R, R::Fault>
     ensures { AnswersUnless (R.of_offer Memory) R.asked result (read_from (line_step R.Item.from_words R.of_offer R.taking) 1 (R.asked reading) (map string_bytes lines.now)) }
 {
-    for (i, line) in lines.iter().enumerate() {
-        take_line(&mut reading, heap, i as u64 + 1, line.as_str())?;
+    for (number, line) in (1..).zip(lines) {
+        take_line(&mut reading, heap, number, line.as_str())?;
     }
     Ok(reading)
 }

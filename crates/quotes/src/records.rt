@@ -1,7 +1,7 @@
 // The records of a unit, by the numbers of their lines.
 
 ghost use Rattle.std.specs.Prelude.{◌≡◌, map};
-ghost use Rattle.quotes.specs.Records.{day_ahead_from, day_ahead_of, numbers_of, ruc_from, ruc_of};
+ghost use Rattle.quotes.specs.Records.{day_ahead_of, ruc_of};
 
 use super::fault::LineFault;
 use super::lines::number;

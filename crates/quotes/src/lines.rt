@@ -9,7 +9,7 @@ use super::fault::{LineFault, OfferFault};
 use offers::Block;
 use std::alloc::{AllocError, Global};
 
-// What a line can name: it is read from the line's first word, its kind, and the words after it.
+// What a line may give, by its first word, the kind, and the words after that.
 pub(crate) trait FromWords: Sized {
     ghost from_words: { List ℕ → List (List ℕ) → Result Self LineFault };
 
@@ -26,7 +26,8 @@ pub enum Item {
     Market(i64),
 }
 
-pub(crate) fn words(heap: Global, text: &str) -> Result<Vec<&str>, AllocError>
+// What stands between blanks.
+fn words(heap: Global, text: &str) -> Result<Vec<&str>, AllocError>
     ensures { IfOk result (λ v. map (λ x. x.now) v.items ≡ words_of text.now) }
 {
     text.split(' ')
@@ -34,6 +35,7 @@ pub(crate) fn words(heap: Global, text: &str) -> Result<Vec<&str>, AllocError>
         .collect(heap)
 }
 
+// A number may have a minus and a width has none, so each follows a definition of its own.
 pub(crate) fn number(word: &str) -> Result<i64, LineFault>
     ensures { result ≡ number_of word.now }
 {
@@ -94,7 +96,7 @@ fn item_of<T: FromWords>(words: &[&str]) -> Result<Option<T>, LineFault>
     Ok(Some(T::from_words(kind, rest)?))
 }
 
-// A fault of a line carries the line's number.
+// Puts a fault under the number of its line.
 pub(crate) fn at_line<T>(number: u64, answer: Result<T, LineFault>) -> Result<T, OfferFault>
     ensures { result ≡ at_line number answer }
 {
@@ -110,5 +112,5 @@ pub(crate) fn read_line<T: FromWords>(
     ensures { Answers (λ x. x) result (at_line number (item_of T.from_words (words_of text.now))) }
 {
     let words = words(heap, text)?;
-    at_line(number, item_of(words.as_slice()))
+    at_line(number, item_of(&words))
 }

@@ -10,7 +10,8 @@ use super::fault::OfferFault;
 use super::lines::{FromWords, read_line};
 use std::alloc::Global;
 
-// What the items of lines make. `asked` is what it asks for, and `taking` what an item does to that.
+// What the items of lines make. In proofs `asked` is what it asks for, `taking` what an item does to that, and `of_offer` the
+// fault that a fault of an offer is here.
 pub(crate) trait Reading: Drop {
     type Item: FromWords;
 
@@ -24,12 +25,15 @@ pub(crate) trait Reading: Drop {
 
     ghost taking: { ℕ → Self.Item → Asked → Result Asked Self.Fault };
 
+    // Takes the item of the line with this number.
     fn take(&mut self, heap: Global, number: u64, item: Self::Item) -> Result<(), Self::Fault>
         ensures { AnswersUnless (of_offer Memory) (λ _. asked self.new) result (taking number item (asked self.old)) };
 
+    // So `?` turns a fault of an offer into one of this reading.
     ghost converts_by: { (fault : OfferFault) (own : Self.Fault) → Self.Fault.from_gives fault own → own ≡ of_offer fault };
 }
 
+// Takes the item of a line, where it has one.
 fn take_line<R: Reading>(
     reading: &mut R,
     heap: Global,
@@ -53,7 +57,7 @@ pub(crate) fn read_lines<R: Reading>(
     ensures { AnswersUnless (R.of_offer Memory) R.asked result (read_from (line_step R.Item.from_words R.of_offer R.taking) 1 (R.asked reading) (map string_bytes lines.now)) }
 {
     for (number, line) in (1..).zip(lines) {
-        take_line(&mut reading, heap, number, line.as_str())?;
+        take_line(&mut reading, heap, number, line)?;
     }
     Ok(reading)
 }

@@ -43,10 +43,7 @@ impl Unit {
     pub fn current_offer(&self) -> &Offer
         ensures { asked result.now ≡ current_asked (unit_asked self.now) }
     {
-        match &self.current {
-            Some(current) => current,
-            None => &self.committed,
-        }
+        self.current.as_ref().unwrap_or(&self.committed)
     }
 
     fn new(heap: Global) -> Unit

@@ -1,12 +1,8 @@
 -- A loop that asks one thing after another, and stops at the first refusal.
-use Rattle.std.proofs.Common.{◌≡◌, ℕ, ◌+◌, ◌<◌, ◌≤◌, List, [], ◌∷◌, ◌++◌, map, length, get_or, drop, Ok, Err, Result, sym, refl, ap, ◌∙◌}
+use Rattle.std.proofs.Common.{◌≡◌, ℕ, ◌+◌, ◌<◌, ◌≤◌, List, [], ◌∷◌, ◌++◌, length, get_or, drop, Ok, Err, Result, sym, refl, ap, ◌∙◌}
 use Rattle.std.proofs.lemmas.List.{append_assoc, append-nil, at_drop_more, at_drop_all}
 use Rattle.offers.specs.Answers.{bind, then}
 use Rattle.quotes.specs.Records.{each}
-
-pub each_map : {W X Y E : Type 0} (f : X → Result Y E) (g : W → X) (ws : List W) → each f (map g ws) ≡ each (λ w. f (g w)) ws
-each_map f g [] = refl
-each_map f g (w ∷ ws) = ap (λ r. bind (f (g w)) (λ y. then r (λ more. y ∷ more))) (each_map f g ws)
 
 pub none_yet : {Y E : Type 0} (r : Result (List Y) E) (front : List Y) → front ≡ [] → r ≡ then r (λ more. front ++ more)
 none_yet (Ok more) front e = rw e refl

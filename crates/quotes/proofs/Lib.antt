@@ -2,9 +2,5 @@ pub mod EachLoop
 pub mod Ends
 pub mod Faulting
 pub mod QuoteLoop
-pub mod Readings
-pub mod LineLoop
-pub mod Sequences
-pub mod Splits
-pub mod Readers
-pub mod UnitSequences
+pub mod Numbers
+pub mod Spelled

@@ -3,6 +3,7 @@ pub mod Lines
 pub mod Offers
 pub mod Piled
 pub mod Quotes
+pub mod Readings
 pub mod Records
 pub mod Sentences
 pub mod UnitAnswers

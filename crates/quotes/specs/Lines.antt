@@ -1,5 +1,6 @@
 -- The words of a line, and the item that they give.
-use Rattle.std.specs.Prelude.{ℕ, ◌^◌, Bool, cond, ◌&&◌, List, [], ◌∷◌, ◌++◌, length, ℤ, pos, negsuc, Some, None, Ok, Err, codes, Option, Result, ◌==◌, int_le, nat_lt, slice_index}
+use Rattle.std.specs.Prelude.{ℕ, ◌^◌, Bool, cond, ◌&&◌, List, [], ◌∷◌, length, not, filter, ℤ, pos, negsuc, Some, None, Ok, Err, codes, Option, Result, ◌==◌, int_le, nat_lt, slice_index}
+use Rattle.std.specs.List.{slice_split}
 use Rattle.std.specs.Str.Parse.{digits_value, without_leading_plus, without_leading_sign, signed_digits_value}
 use Rattle.std.specs.Str.{all_ascii_digits, bytes_eq}
 use Rattle.offers.specs.declared.block.Block.{Block}
@@ -9,19 +10,9 @@ use Rattle.quotes.specs.declared.lines.Item.{Item}
 use Rattle.quotes.specs.declared.lines.Item.TheVariants.{Block as BlockItem, Adder as AdderItem, Cap as CapItem, Market as MarketItem}
 use Rattle.offers.specs.Answers.{bind, then}
 
--- A word that has no byte is none.
-abbrev pub ended : List ℕ → List (List ℕ) → List (List ℕ)
-ended [] rest = rest
-ended (c ∷ word) rest = (c ∷ word) ∷ rest
-
--- The words of a text, after the part of a word that was read before it.
-abbrev pub words_after : List ℕ → List ℕ → List (List ℕ)
-words_after word [] = ended word []
-words_after word (c ∷ cs) = cond (c == 32) (ended word (words_after [] cs)) (words_after (word ++ c ∷ []) cs)
-
 -- The words of a line: what stands between blanks.
 abbrev pub words_of : List ℕ → List (List ℕ)
-words_of bs = words_after [] bs
+words_of bs = filter (λ word. not (length word == 0)) (slice_split (λ c. c == 32) bs)
 
 abbrev pub is_numeral : List ℕ → Bool
 is_numeral ds = nat_lt 0 (length ds) && all_ascii_digits ds
@@ -30,12 +21,12 @@ is_numeral ds = nat_lt 0 (length ds) && all_ascii_digits ds
 abbrev pub is_short : ℤ → Bool
 is_short n = int_le (negsuc 9223372036854775807) n && int_le n (pos 9223372036854775807)
 
--- A number is its digits, after a sign or none.
-abbrev pub number_of : List ℕ → Result ℤ LineFault
+-- A number is its digits, after a sign or none. Proofs open it only where a word is read, and stay small elsewhere.
+unfoldable pub number_of : List ℕ → Result ℤ LineFault
 number_of word = cond (is_numeral (without_leading_sign word) && is_short (signed_digits_value 10 word)) (Ok (signed_digits_value 10 word)) (Err NotANumber)
 
--- A width has no minus, and is a u64.
-abbrev pub width_of : List ℕ → Result ℕ LineFault
+-- A width has no minus, and is a u64. It is opened as seldom.
+unfoldable pub width_of : List ℕ → Result ℕ LineFault
 width_of word = cond (is_numeral (without_leading_plus word) && nat_lt (digits_value 10 (without_leading_plus word)) (2 ^ 64)) (Ok (digits_value 10 (without_leading_plus word))) (Err NotANumber)
 
 abbrev pub only_number : List (List ℕ) → Result ℤ LineFault
@@ -58,7 +49,7 @@ item_from kind words =
     (cond (bytes_eq kind (codes "market")) (then (only_number words) MarketItem)
     (Err UnknownItem))))
 
--- The item that a line's words give. A blank line and a comment, which begins with #, give none.
-abbrev pub item_of : List (List ℕ) → Result (Option Item) LineFault
-item_of [] = Ok None
-item_of (kind ∷ words) = cond (slice_index kind 0 == 35) (Ok None) (then (item_from kind words) Some)
+-- The item that a line's words give, as its kind is read. A blank line and a comment, which begins with #, give none.
+abbrev pub item_of : {T : Type 0} → (List ℕ → List (List ℕ) → Result T LineFault) → List (List ℕ) → Result (Option T) LineFault
+item_of from_words [] = Ok None
+item_of from_words (kind ∷ words) = cond (slice_index kind 0 == 35) (Ok None) (then (from_words kind words) Some)

@@ -1,5 +1,5 @@
 -- What an offer asks for, line by line.
-use Rattle.std.specs.Prelude.{ℕ, ◌+◌, List, [], ◌∷◌, ◌++◌, ℤ, Some, None, Ok, Err, vec_items, Option, Result}
+use Rattle.std.specs.Prelude.{ℕ, List, [], ◌∷◌, ◌++◌, ℤ, Ok, Err, vec_items, Result}
 use Rattle.offers.specs.declared.block.Block.{Block}
 use Rattle.quotes.specs.declared.fault.LineFault.{LineFault}
 use Rattle.quotes.specs.declared.fault.LineFault.TheVariants.{SecondAdder, SecondCap}
@@ -9,9 +9,10 @@ use Rattle.quotes.specs.declared.lines.Item.TheVariants.{Block as BlockItem, Add
 use Rattle.quotes.specs.declared.offer.Offer.{Offer}
 use Rattle.quotes.specs.declared.offer.Pile.{Pile}
 use Rattle.quotes.specs.declared.offer.Pile.TheVariants.{Bare, Cap, Adder, CapOverAdder, AdderOverCap}
-use Rattle.offers.specs.Answers.{bind, then}
+use Rattle.offers.specs.Answers.{then}
 use Rattle.quotes.specs.Answers.{at_line}
-use Rattle.quotes.specs.Lines.{item_of, words_of}
+use Rattle.quotes.specs.Lines.{item_from}
+use Rattle.quotes.specs.Readings.{line_step, read_from}
 
 -- The blocks, what lies on them, and the market prices that are asked about.
 pub record Asked : Type 0 where
@@ -51,15 +52,10 @@ taking (AdderItem added) a = then (adder_laid added a.pile) (laid a)
 taking (CapItem limit) a = then (cap_laid limit a.pile) (laid a)
 taking (MarketItem price) a = Ok (record { blocks = a.blocks; pile = a.pile; markets = a.markets ++ price ∷ [] })
 
-abbrev pub taking_any : Option Item → Asked → Result Asked LineFault
-taking_any None a = Ok a
-taking_any (Some item) a = taking item a
-
--- What a line does to an offer.
-abbrev pub line_taken : Asked → List ℕ → Result Asked LineFault
-line_taken a bs = bind (item_of (words_of bs)) (λ item. taking_any item a)
+-- The same of the item of a line.
+abbrev pub item_taken : ℕ → Item → Asked → Result Asked OfferFault
+item_taken number item a = at_line number (taking item a)
 
 -- What lines from this number on make of an offer, or the first fault.
 abbrev pub offer_read : ℕ → Asked → List (List ℕ) → Result Asked OfferFault
-offer_read number a [] = Ok a
-offer_read number a (bs ∷ rest) = bind (at_line number (line_taken a bs)) (λ b. offer_read (number + 1) b rest)
+offer_read = read_from (line_step item_from (λ fault. fault) item_taken)

@@ -1,16 +1,10 @@
 -- What a reading of a unit answers, and how its faults are reported.
-use Rattle.std.specs.Prelude.{ℕ, List, ◌++◌, Ok, Err, Result, codes, decimal}
-use Rattle.quotes.specs.declared.fault.OfferFault.{OfferFault}
+use Rattle.std.specs.Prelude.{ℕ, List, ◌++◌, Result, codes, decimal}
 use Rattle.quotes.specs.declared.fault.OfferFault.TheVariants.{Memory}
 use Rattle.quotes.specs.declared.unit_fault.UnitFault.{UnitFault}
 use Rattle.quotes.specs.declared.unit_fault.UnitFault.TheVariants.{Offer, SecondCurrent, SecondDayAhead, SecondRuc}
 use Rattle.quotes.specs.Answers.{AnswersUnless}
 use Rattle.quotes.specs.Sentences.{fault_sentence}
-
--- A fault of an offer is one of the unit that it belongs to.
-abbrev pub as_offer : {X : Type 0} → Result X OfferFault → Result X UnitFault
-as_offer (Ok x) = Ok x
-as_offer (Err f) = Err (Offer f)
 
 -- The answer means what is due, or memory ran out.
 abbrev pub UnitAnswers : {X Y : Type 0} → (Y → X) → Result Y UnitFault → Result X UnitFault → Type 0

@@ -1,5 +1,5 @@
 -- The item that the words of a line of a unit give.
-use Rattle.std.specs.Prelude.{ℕ, cond, List, [], ◌∷◌, Some, None, Ok, Err, codes, Option, Result, ◌==◌, slice_index}
+use Rattle.std.specs.Prelude.{ℕ, cond, List, [], ◌∷◌, Ok, Err, codes, Result}
 use Rattle.std.specs.Str.{bytes_eq}
 use Rattle.quotes.specs.declared.fault.LineFault.{LineFault}
 use Rattle.quotes.specs.declared.fault.LineFault.TheVariants.{WordCount}
@@ -21,8 +21,3 @@ unit_item_from kind words =
     (cond (bytes_eq kind (codes "day-ahead")) (then (day_ahead_of words) DayAheadItem)
     (cond (bytes_eq kind (codes "ruc")) (then (ruc_of words) RucItem)
     (then (item_from kind words) OfferItem)))
-
--- The item that a line's words give. A blank line and a comment, which begins with #, give none.
-abbrev pub unit_item_of : List (List ℕ) → Result (Option UnitItem) LineFault
-unit_item_of [] = Ok None
-unit_item_of (kind ∷ words) = cond (slice_index kind 0 == 35) (Ok None) (then (unit_item_from kind words) Some)

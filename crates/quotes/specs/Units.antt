@@ -1,5 +1,5 @@
 -- What the text of a unit asks for, line by line.
-use Rattle.std.specs.Prelude.{ℕ, ◌+◌, List, [], ◌∷◌, Some, None, Ok, Err, Option, Result}
+use Rattle.std.specs.Prelude.{ℕ, List, Some, None, Ok, Err, Option, Result}
 use Rattle.market.specs.declared.day_ahead.DayAheadRecord.{DayAheadRecord}
 use Rattle.market.specs.declared.ruc_record.RucRecord.{RucRecord}
 use Rattle.quotes.specs.declared.fault.LineFault.{LineFault}
@@ -7,15 +7,14 @@ use Rattle.quotes.specs.declared.lines.Item.{Item}
 use Rattle.quotes.specs.declared.offer.Offer.{Offer}
 use Rattle.quotes.specs.declared.unit.Unit.{Unit as GeneratingUnit}
 use Rattle.quotes.specs.declared.unit_fault.UnitFault.{UnitFault}
-use Rattle.quotes.specs.declared.unit_fault.UnitFault.TheVariants.{SecondCurrent, SecondDayAhead, SecondRuc}
+use Rattle.quotes.specs.declared.unit_fault.UnitFault.TheVariants.{Offer as OfAnOffer, SecondCurrent, SecondDayAhead, SecondRuc}
 use Rattle.quotes.specs.declared.unit_lines.UnitItem.{UnitItem}
 use Rattle.quotes.specs.declared.unit_lines.UnitItem.TheVariants.{Offer as OfferItem, Current as CurrentItem, DayAhead as DayAheadItem, Ruc as RucItem}
-use Rattle.offers.specs.Answers.{bind, then}
+use Rattle.offers.specs.Answers.{then}
 use Rattle.quotes.specs.Answers.{at_line}
-use Rattle.quotes.specs.Lines.{words_of}
 use Rattle.quotes.specs.Offers.{Asked, asked, nothing, taking}
-use Rattle.quotes.specs.UnitAnswers.{as_offer}
-use Rattle.quotes.specs.UnitLines.{unit_item_of}
+use Rattle.quotes.specs.Readings.{as_fault, line_step, read_from}
+use Rattle.quotes.specs.UnitLines.{unit_item_from}
 
 -- The offer at commitment, the current offer where one is given, and the records to settle.
 pub record UnitAsked : Type 0 where
@@ -69,20 +68,11 @@ offer_taken item u = offer_taken_by u.current item u
 
 -- What the item of a line does to a unit.
 abbrev pub unit_item_taken : ℕ → UnitItem → UnitAsked → Result UnitAsked UnitFault
-unit_item_taken number (OfferItem item) u = as_offer (at_line number (offer_taken item u))
+unit_item_taken number (OfferItem item) u = as_fault OfAnOffer (at_line number (offer_taken item u))
 unit_item_taken number CurrentItem u = then (only_one_of_kind u.current nothing (SecondCurrent number)) (current_as u)
 unit_item_taken number (DayAheadItem x) u = then (only_one_of_kind u.hour x (SecondDayAhead number)) (hour_as u)
 unit_item_taken number (RucItem x) u = then (only_one_of_kind u.interval x (SecondRuc number)) (interval_as u)
 
-abbrev pub any_taken : ℕ → Option UnitItem → UnitAsked → Result UnitAsked UnitFault
-any_taken number None u = Ok u
-any_taken number (Some item) u = unit_item_taken number item u
-
--- What a line does to a unit.
-abbrev pub unit_line_taken : ℕ → UnitAsked → List ℕ → Result UnitAsked UnitFault
-unit_line_taken number u bs = bind (as_offer (at_line number (unit_item_of (words_of bs)))) (λ item. any_taken number item u)
-
 -- What lines from this number on make of a unit, or the first fault.
 abbrev pub unit_read : ℕ → UnitAsked → List (List ℕ) → Result UnitAsked UnitFault
-unit_read number u [] = Ok u
-unit_read number u (bs ∷ rest) = bind (unit_line_taken number u bs) (λ v. unit_read (number + 1) v rest)
+unit_read = read_from (line_step unit_item_from OfAnOffer unit_item_taken)

@@ -9,6 +9,7 @@ mod lines;
 mod offer;
 mod piled;
 mod pricing;
+mod readings;
 mod records;
 mod unit;
 mod unit_fault;

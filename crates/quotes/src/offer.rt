@@ -1,12 +1,12 @@
 // An offer, taken item by item from its lines.
 
 ghost use Rattle.std.specs.Prelude.{◌≡◌, map, string_bytes};
-ghost use Rattle.offers.specs.Answers.{then};
-ghost use Rattle.quotes.specs.Answers.{Answers, at_line};
-ghost use Rattle.quotes.specs.Offers.{adder_laid, asked, cap_laid, laid, line_taken, nothing, offer_read, taking};
+ghost use Rattle.quotes.specs.Answers.{Answers};
+ghost use Rattle.quotes.specs.Offers.{Asked, adder_laid, asked, cap_laid, item_taken, nothing, offer_read};
 
 use super::fault::{LineFault, OfferFault};
-use super::lines::{Item, read_line};
+use super::lines::{Item, at_line};
+use super::readings::{Reading, read_lines};
 use offers::Block;
 use std::alloc::Global;
 
@@ -59,49 +59,37 @@ impl Offer {
             markets: Vec::new(heap),
         }
     }
+}
 
-    // Lays a cap or an adder over the pile, or leaves it with the fault of the line.
-    fn lay(&mut self, number: u64, pile: Result<Pile, LineFault>) -> Result<(), OfferFault>
-        ensures { Answers (λ _. asked self.new) result (at_line number (then pile (laid (asked self.old)))) }
-    {
-        match pile {
-            Ok(pile) => {
-                self.pile = pile;
-                Ok(())
-            }
-            Err(fault) => Err(OfferFault::Line { number, fault }),
-        }
-    }
+impl Reading for Offer {
+    type Item = Item;
 
-    // Takes the item of a line.
-    pub(crate) fn take(&mut self, number: u64, item: Item) -> Result<(), OfferFault>
-        ensures { Answers (λ _. asked self.new) result (at_line number (taking item (asked self.old))) }
-    {
+    type Fault = OfferFault;
+
+    ghost Asked = { Asked };
+
+    ghost asked = { asked };
+
+    ghost of_offer = { λ fault. fault };
+
+    ghost taking = { item_taken };
+
+    fn take(&mut self, _heap: Global, number: u64, item: Item) -> Result<(), OfferFault> {
         match item {
-            Item::Block(block) => Ok(self.blocks.push(block)?),
-            Item::Market(price) => Ok(self.markets.push(price)?),
-            Item::Cap(limit) => self.lay(number, self.pile.with_cap(limit)),
-            Item::Adder(added) => self.lay(number, self.pile.with_adder(added)),
+            Item::Block(block) => self.blocks.push(block)?,
+            Item::Market(price) => self.markets.push(price)?,
+            Item::Cap(limit) => self.pile = at_line(number, self.pile.with_cap(limit))?,
+            Item::Adder(added) => self.pile = at_line(number, self.pile.with_adder(added))?,
         }
+        Ok(())
     }
 
-    fn take_line(&mut self, heap: Global, number: u64, text: &str) -> Result<(), OfferFault>
-        ensures { Answers (λ _. asked self.new) result (at_line number (line_taken (asked self.old) text.now)) }
-    {
-        match read_line(heap, number, text)? {
-            Some(item) => self.take(number, item),
-            None => Ok(()),
-        }
-    }
+    ghost converts_by = { λ fault own same. same };
 }
 
 // The offer that the lines make, or the first fault.
 pub fn read_offer(heap: Global, lines: &[String]) -> Result<Offer, OfferFault>
     ensures { Answers asked result (offer_read 1 nothing (map string_bytes lines.now)) }
 {
-    let mut offer = Offer::new(heap);
-    for (i, line) in lines.iter().enumerate() {
-        offer.take_line(heap, i as u64 + 1, line.as_str())?;
-    }
-    Ok(offer)
+    read_lines(heap, lines, Offer::new(heap))
 }

@@ -2,15 +2,17 @@
 
 ghost use Rattle.std.specs.Prelude.{◌≡◌, map, string_bytes};
 ghost use Rattle.quotes.specs.Answers.{Answers, at_line};
+ghost use Rattle.quotes.specs.declared.unit_fault.UnitFault.TheVariants.{Offer as OfAnOffer};
 ghost use Rattle.quotes.specs.UnitAnswers.{UnitAnswers};
 ghost use Rattle.quotes.specs.Offers.{asked};
-ghost use Rattle.quotes.specs.Units.{current_asked, offer_taken, only_one_of_kind, unit_asked, unit_item_taken, unit_line_taken, unit_read, untold};
+ghost use Rattle.quotes.specs.Units.{UnitAsked, current_asked, offer_taken, only_one_of_kind, unit_asked, unit_item_taken, unit_read, untold};
 
 use super::fault::OfferFault;
 use super::lines::Item;
 use super::offer::Offer;
+use super::readings::{Reading, read_lines};
 use super::unit_fault::UnitFault;
-use super::unit_lines::{UnitItem, read_unit_line};
+use super::unit_lines::UnitItem;
 use market::{DayAheadRecord, RucRecord};
 use std::alloc::Global;
 
@@ -41,10 +43,7 @@ impl Unit {
     pub fn current_offer(&self) -> &Offer
         ensures { asked result.now ≡ current_asked (unit_asked self.now) }
     {
-        match &self.current {
-            Some(current) => current,
-            None => &self.committed,
-        }
+        self.current.as_ref().unwrap_or(&self.committed)
     }
 
     fn new(heap: Global) -> Unit
@@ -59,20 +58,32 @@ impl Unit {
     }
 
     // An item of an offer goes to the current offer once that is started.
-    fn take_offer_item(&mut self, number: u64, item: Item) -> Result<(), OfferFault>
+    fn take_offer_item(&mut self, heap: Global, number: u64, item: Item) -> Result<(), OfferFault>
         ensures { Answers (λ _. unit_asked self.new) result (at_line number (offer_taken item (unit_asked self.old))) }
     {
         match &mut self.current {
-            Some(current) => current.take(number, item),
-            None => self.committed.take(number, item),
+            Some(current) => current.take(heap, number, item),
+            None => self.committed.take(heap, number, item),
         }
     }
+}
 
-    fn take(&mut self, heap: Global, number: u64, item: UnitItem) -> Result<(), UnitFault>
-        ensures { UnitAnswers (λ _. unit_asked self.new) result (unit_item_taken number item (unit_asked self.old)) }
-    {
+impl Reading for Unit {
+    type Item = UnitItem;
+
+    type Fault = UnitFault;
+
+    ghost Asked = { UnitAsked };
+
+    ghost asked = { unit_asked };
+
+    ghost of_offer = { OfAnOffer };
+
+    ghost taking = { unit_item_taken };
+
+    fn take(&mut self, heap: Global, number: u64, item: UnitItem) -> Result<(), UnitFault> {
         match item {
-            UnitItem::Offer(item) => Ok(self.take_offer_item(number, item)?),
+            UnitItem::Offer(item) => Ok(self.take_offer_item(heap, number, item)?),
             UnitItem::Current => put(
                 &mut self.current,
                 Offer::new(heap),
@@ -87,23 +98,12 @@ impl Unit {
         }
     }
 
-    fn take_line(&mut self, heap: Global, number: u64, text: &str) -> Result<(), UnitFault>
-        ensures { UnitAnswers (λ _. unit_asked self.new) result (unit_line_taken number (unit_asked self.old) text.now) }
-    {
-        match read_unit_line(heap, number, text)? {
-            Some(item) => self.take(heap, number, item),
-            None => Ok(()),
-        }
-    }
+    ghost converts_by = { λ fault own same. same };
 }
 
 // The unit that the lines make, or the first fault.
 pub fn read_unit(heap: Global, lines: &[String]) -> Result<Unit, UnitFault>
     ensures { UnitAnswers unit_asked result (unit_read 1 untold (map string_bytes lines.now)) }
 {
-    let mut unit = Unit::new(heap);
-    for (i, line) in lines.iter().enumerate() {
-        unit.take_line(heap, i as u64 + 1, line.as_str())?;
-    }
-    Ok(unit)
+    read_lines(heap, lines, Unit::new(heap))
 }

@@ -10,8 +10,7 @@ use offers::OfferCurve;
 pub(crate) fn cost_at<C: OfferCurve>(curve: &C, tenths: u64) -> Result<i64, ProcessRefusal>
     ensures { result ≡ cost_at (C.prices curve.now) tenths }
 {
-    match curve.cost(tenths) {
-        Ok(cost) => Ok(cost),
-        Err(_) => Err(ProcessRefusal::NoSuchTenth(tenths)),
-    }
+    curve
+        .cost(tenths)
+        .map_err(|_| ProcessRefusal::NoSuchTenth(tenths))
 }

@@ -1,7 +1,7 @@
 // What the tests of processes share: curves, records with one field set, and refusals compared.
 
 use market::{Amounts, DayAheadRecord, ProcessRefusal, RucRecord};
-use offers::{Adder, Block, BlockCurve, Layer};
+use offers::{Adder, Block, BlockCurve, Layer, Refusal};
 use std::alloc::Global;
 use std::process::Abort;
 use std::test::Fail;

@@ -1,24 +1,12 @@
 -- The check of a record's fields, row by row.
-use Rattle.std.specs.Prelude.{◌≡◌, ℕ, ◌+◌, ◌<◌, ◌≤◌, Bool, true, false, cond, List, [], ◌∷◌, length, drop, ℤ, pos, Some, None, slice_index_or, refl}
-use Rattle.std.proofs.Common.{subst, ◌∙◌, arith}
-use Rattle.std.proofs.lemmas.List.{at_drop_all, at_drop_more}
+use Rattle.std.specs.Prelude.{◌≡◌, ℕ, ◌+◌, ◌≤◌, Bool, true, false, cond, List, [], ◌∷◌, ℤ, Some, None, refl}
+use Rattle.std.proofs.Common.{subst, arith}
 use Rattle.std.proofs.lemmas.Int.{ints}
 use Rattle.market.specs.declared.limits.Limits.{Limits}
 use Rattle.market.specs.declared.refusal.ProcessRefusal.{ProcessRefusal}
 use Rattle.market.specs.declared.refusal.ProcessRefusal.TheVariants.{FieldOutsideLimits}
 use Rattle.market.specs.Laws.{LawfulRefusal}
 use Rattle.market.specs.Limits.{Admitted, admitted, field_refusal, AllAdmitted}
-
-abbrev pub row_at : List Limits → ℕ → Limits
-row_at rows i = slice_index_or rows i (record { lowest = pos 0; highest = pos 0 })
-
--- the refusal of the fields from a place on, by the field at that place
-pub refusal-from : (rows : List Limits) (fields : List ℤ) (i : ℕ) → length fields ≡ length rows → i < length rows → field_refusal (i + 1) (drop i rows) (drop i fields) ≡ cond (admitted (row_at rows i) (slice_index_or fields i (pos 0))) (field_refusal (i + 1 + 1) (drop (i + 1) rows) (drop (i + 1) fields)) (Some (FieldOutsideLimits (i + 1)))
-refusal-from rows fields i same h =
-    at_drop_more (λ rs. field_refusal (i + 1) rs (drop i fields)) rows i (row_at [] 0) h ∙ at_drop_more (λ fs. field_refusal (i + 1) (row_at rows i ∷ drop (i + 1) rows) fs) fields i (pos 0) (omega arith)
-
-pub refusal-after : (rows : List Limits) (fields : List ℤ) (i : ℕ) → length rows ≡ i → field_refusal (i + 1) (drop i rows) (drop i fields) ≡ None
-refusal-after rows fields i h = at_drop_all (λ rs. field_refusal (i + 1) rs (drop i fields)) rows i (omega arith)
 
 -- a refused field has a number from the first on
 pub field-named : (i : ℕ) (rows : List Limits) (fields : List ℤ) (e : ProcessRefusal) → 1 ≤ i → field_refusal i rows fields ≡ Some e → LawfulRefusal e

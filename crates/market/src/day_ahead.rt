@@ -140,7 +140,7 @@ impl<C: OfferCurve> MarketProcess for DayAhead<C> {
         ensures value { result ≡ day_ahead_meaning (C.OfferCurve.prices self.now.curve) step.now }
         ensures taken { Decides (is_ok result) (DayAheadTaken (C.OfferCurve.prices self.now.curve) step.now) }
     {
-        check_fields(&step.fields(), &DayAheadRecord::limits())?;
+        check_fields(step.fields(), DayAheadRecord::limits())?;
         let energy = cost_at(&self.curve, step.tenths())?;
         Ok(hour_of(step.cost_parts(energy), step.revenue_parts()))
     }

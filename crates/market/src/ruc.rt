@@ -62,7 +62,7 @@ impl<C: OfferCurve, N: OfferCurve> Ruc<C, N> {
     fn check(&self, step: &RucRecord) -> Result<(), ProcessRefusal>
         ensures { result ≡ checked (ruc_refusal (C.OfferCurve.prices self.now.committed) (N.OfferCurve.prices self.now.current) step.now) }
     {
-        check_fields(&step.fields(), &step.limits())?;
+        check_fields(step.fields(), step.limits())?;
         self.committed_cost(step.least())?;
         self.current_cost(step.least())?;
         self.current_cost(step.most())?;

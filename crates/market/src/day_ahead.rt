@@ -7,20 +7,13 @@ ghost use Rattle.market.specs.Parts.{Payable, Sellable, day_ahead_cost_parts, da
 ghost use Rattle.market.specs.Hours.{hour-lawful};
 ghost use Rattle.std.proofs.Common.{rules};
 
-use super::amounts::{Amounts, Figures};
+use super::amounts::Amounts;
 use super::asking::cost_at;
 use super::limits::{DAY_AHEAD_LIMITS, Limits, check_fields};
 use super::parts::{CostParts, RevenueParts, cost_of_parts, revenue_of_parts};
 use super::process::MarketProcess;
 use super::refusal::ProcessRefusal;
 use offers::OfferCurve;
-
-const DAY_AHEAD: Figures = Figures {
-    number: 1,
-    length: 12,
-    takes_over: true,
-    pot: 0,
-};
 
 // One hour of a unit: the power cleared in tenths, its price in cents per MWh, the no-load offer in cents an hour, cost and
 // revenue of reserve in ticks an interval. Any numbers may stand in it.
@@ -114,27 +107,27 @@ pub struct DayAhead<C> {
 impl<C: OfferCurve> MarketProcess for DayAhead<C> {
     type Record = DayAheadRecord;
 
-    const NUMBER: u8 = DAY_AHEAD.number;
+    const NUMBER: u8 = 1;
 
-    const LENGTH: u64 = DAY_AHEAD.length;
+    const LENGTH: u64 = 12;
 
-    const TAKES_OVER: bool = DAY_AHEAD.takes_over;
+    const TAKES_OVER: bool = true;
 
-    const POT: u8 = DAY_AHEAD.pot;
+    const POT: u8 = 0;
 
-    ghost figures = { day_ahead_figures };
+    ghost NUMBER = { day_ahead_figures.number };
+
+    ghost LENGTH = { day_ahead_figures.length };
+
+    ghost TAKES_OVER = { day_ahead_figures.takes_over };
+
+    ghost POT = { day_ahead_figures.pot };
 
     ghost meaning = { λ p x. day_ahead_meaning (C.OfferCurve.prices p.curve) x };
 
     ghost lawful = { Prim.search rules };
 
     ghost bounded = { λ p x. hour-lawful (C.OfferCurve.prices p.curve) x (C.OfferCurve.lawful p.curve) };
-
-    fn figures() -> Figures
-        ensures { result ≡ day_ahead_figures }
-    {
-        DAY_AHEAD
-    }
 
     fn settle(&self, step: &DayAheadRecord) -> Result<Amounts, ProcessRefusal>
         ensures value { result ≡ day_ahead_meaning (C.OfferCurve.prices self.now.curve) step.now }

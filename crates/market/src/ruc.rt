@@ -8,7 +8,7 @@ ghost use Rattle.market.specs.Parts.{Billable, ruc_costs, ruc_amounts_of};
 ghost use Rattle.market.specs.Intervals.{interval-lawful};
 ghost use Rattle.std.proofs.Common.{rules};
 
-use super::amounts::{Amounts, Figures};
+use super::amounts::Amounts;
 use super::asking::cost_at;
 use super::limits::check_fields;
 use super::parts::{cost_of_parts, revenue_of_parts};
@@ -16,13 +16,6 @@ use super::process::MarketProcess;
 use super::refusal::ProcessRefusal;
 use super::ruc_record::{RucCosts, RucRecord, disallowed_of};
 use offers::OfferCurve;
-
-const RUC: Figures = Figures {
-    number: 2,
-    length: 1,
-    takes_over: false,
-    pot: 1,
-};
 
 // The process of a unit by the curve of the commitment decision and the current curve, which may differ in make.
 #[derive(Drop)]
@@ -101,27 +94,27 @@ impl<C: OfferCurve, N: OfferCurve> Ruc<C, N> {
 impl<C: OfferCurve, N: OfferCurve> MarketProcess for Ruc<C, N> {
     type Record = RucRecord;
 
-    const NUMBER: u8 = RUC.number;
+    const NUMBER: u8 = 2;
 
-    const LENGTH: u64 = RUC.length;
+    const LENGTH: u64 = 1;
 
-    const TAKES_OVER: bool = RUC.takes_over;
+    const TAKES_OVER: bool = false;
 
-    const POT: u8 = RUC.pot;
+    const POT: u8 = 1;
 
-    ghost figures = { ruc_figures };
+    ghost NUMBER = { ruc_figures.number };
+
+    ghost LENGTH = { ruc_figures.length };
+
+    ghost TAKES_OVER = { ruc_figures.takes_over };
+
+    ghost POT = { ruc_figures.pot };
 
     ghost meaning = { λ p x. ruc_meaning (C.OfferCurve.prices p.committed) (N.OfferCurve.prices p.current) x };
 
     ghost lawful = { Prim.search rules };
 
     ghost bounded = { λ p x. interval-lawful (C.OfferCurve.prices p.committed) (N.OfferCurve.prices p.current) x (C.OfferCurve.lawful p.committed) (N.OfferCurve.lawful p.current) };
-
-    fn figures() -> Figures
-        ensures { result ≡ ruc_figures }
-    {
-        RUC
-    }
 
     fn settle(&self, step: &RucRecord) -> Result<Amounts, ProcessRefusal>
         ensures value { result ≡ ruc_meaning (C.OfferCurve.prices self.now.committed) (N.OfferCurve.prices self.now.current) step.now }

@@ -10,8 +10,8 @@ use Rattle.market.specs.Limits.{Admitted, admitted, field_refusal, AllAdmitted}
 
 -- a refused field has a number from the first on
 pub field-named : (i : ℕ) (rows : List Limits) (fields : List ℤ) (e : ProcessRefusal) → 1 ≤ i → field_refusal i rows fields ≡ Some e → LawfulRefusal e
-field-named i [] fields e h k = absurd (let z : ◌≡◌ {A = ℕ} 0 1 = cc in omega arith)
-field-named i (row ∷ rows) [] e h k = absurd (let z : ◌≡◌ {A = ℕ} 0 1 = cc in omega arith)
+field-named i [] fields e h k = absurd (cc)
+field-named i (row ∷ rows) [] e h k = absurd (cc)
 field-named i (row ∷ rows) (n ∷ fields) e h k = go (admitted row n) k (field-named (i + 1) rows fields e (omega arith))
   where
     go : (b : Bool) → cond b (field_refusal (i + 1) rows fields) (Some (FieldOutsideLimits i)) ≡ Some e → (field_refusal (i + 1) rows fields ≡ Some e → LawfulRefusal e) → LawfulRefusal e
@@ -32,7 +32,7 @@ none-refused i (row ∷ rows) (n ∷ fields) h = go (admitted row n) refl h (non
   where
     go : (b : Bool) → admitted row n ≡ b → cond b (field_refusal (i + 1) rows fields) (Some (FieldOutsideLimits i)) ≡ None → (field_refusal (i + 1) rows fields ≡ None → AllAdmitted rows fields) → AllAdmitted (row ∷ rows) (n ∷ fields)
     go true t k rest = (admitted-holds row n t, rest k)
-    go false t k rest = absurd (let z : ◌≡◌ {A = ℕ} 0 1 = cc in omega arith)
+    go false t k rest = absurd (cc)
 
 pub all-taken : (i : ℕ) (rows : List Limits) (fields : List ℤ) → AllAdmitted rows fields → field_refusal i rows fields ≡ None
 all-taken i [] fields h = refl

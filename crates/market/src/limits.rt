@@ -1,8 +1,8 @@
 // The limits of the fields of a record, and the check that walks them.
 
-ghost use Rattle.std.specs.Prelude.{◌≡◌};
+ghost use Rattle.std.specs.Prelude.{◌≡◌, OnOk};
 ghost use Rattle.market.specs.Curves.{checked};
-ghost use Rattle.market.specs.Limits.{admitted, field_refusal};
+ghost use Rattle.market.specs.Limits.{AllAdmitted, admitted, field_refusal};
 
 use super::refusal::ProcessRefusal;
 use offers::{HIGHEST_PRICE, LOWEST_PRICE};
@@ -82,7 +82,8 @@ pub(crate) fn check_fields<const N: usize>(
     fields: [i64; N],
     limits: [Limits; N],
 ) -> Result<(), ProcessRefusal>
-    ensures { result ≡ checked (field_refusal 1 limits.entry fields.entry) }
+    ensures value { result ≡ checked (field_refusal 1 limits.entry fields.entry) }
+    ensures admitted { OnOk result (AllAdmitted limits.entry fields.entry) }
 {
     let outside = limits
         .iter()

@@ -5,6 +5,7 @@ use Rattle.std.proofs.lemmas.Iterator.Search.{position_from_yields_List}
 use Rattle.std.specs.List.{zip}
 use Rattle.std.specs.Option.{option_map}
 use Rattle.market.specs.declared.refusal.ProcessRefusal.TheVariants.{FieldOutsideLimits}
+use Rattle.market.specs.Fields.{none-refused}
 use Rattle.market.specs.Limits.{field_refusal}
 use Rattle.market.proofs.Fields.{is_outside, refusal-position}
 use Rattle.market.proofs.limits.check_fields.Given.{Over}
@@ -18,8 +19,11 @@ found g c =
     let place = position_from_yields_List is_outside c.position-outside.new.self _ c.position-outside.result c.position-outside.ensures.ran pairs (λ x b q k. search rules) in
     refusal-position 0 c.args.limits c.args.fields ∙ sym (ap (option_map (λ k. FieldOutsideLimits (k + 1))) (place ∙ position_from-zero is_outside (zip c.args.limits c.args.fields)))
 
-pub returns-in-Some : goal.returns-in-Some
-returns-in-Some g c = rw (found g ((goal.at.returns-in-Some g c).After-position-outside), c.in-Some.is)
+pub returns-in-Some-clause-value : goal.returns-in-Some-clause-value
+returns-in-Some-clause-value g c = rw (found g ((goal.at.returns-in-Some-clause-value g c).After-position-outside), c.in-Some.is)
 
-pub returns-in-None : goal.returns-in-None
-returns-in-None g c = rw (found g ((goal.at.returns-in-None g c).After-position-outside), c.in-None.is)
+pub returns-in-None-clause-value : goal.returns-in-None-clause-value
+returns-in-None-clause-value g c = rw (found g ((goal.at.returns-in-None-clause-value g c).After-position-outside), c.in-None.is)
+
+pub returns-in-None-clause-admitted : goal.returns-in-None-clause-admitted
+returns-in-None-clause-admitted g c = none-refused 1 c.args.limits c.args.fields (rw (found g ((goal.at.returns-in-None-clause-admitted g c).After-position-outside), c.in-None.is))

@@ -53,8 +53,7 @@ pub(super) const IDLE_INTERVAL: RucRecord = RucRecord {
 };
 
 // A record with the field of a number set; fields count from 1.
-pub(super) fn hour_with(hour: DayAheadRecord, field: u64, value: i64) -> DayAheadRecord {
-    let mut hour = hour;
+pub(super) fn hour_with(mut hour: DayAheadRecord, field: u64, value: i64) -> DayAheadRecord {
     match field {
         1 => hour.cleared = value,
         2 => hour.price = value,
@@ -65,8 +64,7 @@ pub(super) fn hour_with(hour: DayAheadRecord, field: u64, value: i64) -> DayAhea
     hour
 }
 
-pub(super) fn interval_with(interval: RucRecord, field: u64, value: i64) -> RucRecord {
-    let mut interval = interval;
+pub(super) fn interval_with(mut interval: RucRecord, field: u64, value: i64) -> RucRecord {
     match field {
         1 => interval.commitment_minimum = value,
         2 => interval.minimum_now = value,

@@ -3,4 +3,4 @@ use Rattle.market.specs.Costs.{cost-within}
 use Rattle.market.proofs.asking.cost_of.Goals as goal
 
 pub returns-clause-modest : goal.returns-clause-modest
-returns-clause-modest g c = let near = cost-within (g.C.OfferCurve.prices c.args.curve.now) c.args.tenths (g.met.C.OfferCurve.lawful c.args.curve.now) in search rules
+returns-clause-modest g c = let near = cost-within _ c.args.tenths (g.met.C.OfferCurve.lawful c.args.curve.now) in search rules

@@ -8,7 +8,4 @@ returns c =
     let first = simp (to_z-of_z, c.off_setpoint.ensures) at c.ticks_if-first.ensures.value in
     let second = simp (to_z-of_z, c.is_non_dispatchable.ensures) at c.ticks_if-second.ensures.value in
     let third = simp (to_z-of_z, c.minimum_raised.ensures) at c.ticks_if-third.ensures.value in
-    let l = c.ticks_if-first.ensures.modest in
-    let m = c.ticks_if-second.ensures.modest in
-    let n = c.ticks_if-third.ensures.modest in
     omega (arith, ints)

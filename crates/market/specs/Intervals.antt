@@ -1,5 +1,5 @@
 -- The RUC process: which records are taken, and the bounds of their amounts.
-use Rattle.std.specs.Prelude.{◌≡◌, ◌≤◌, Bool, true, false, cond, not, ◌&&◌, List, ℤ, pos, ◌+ℤ◌, ◌-ℤ◌, ◌≤ℤ◌, Some, None, Option, unsigned_abs}
+use Rattle.std.specs.Prelude.{◌≡◌, ◌≤◌, Bool, cond, not, ◌&&◌, List, ℤ, pos, ◌+ℤ◌, ◌-ℤ◌, ◌≤ℤ◌, Some, None, Option, unsigned_abs}
 use Rattle.std.proofs.Common.{arith}
 use Rattle.std.proofs.lemmas.Int.{ints}
 use Rattle.std.specs.Int.{int_max}
@@ -24,14 +24,7 @@ max-low z = grind (arith, ints)
 
 -- grounds two and three exclude each other, so that at most two disallow
 grounds-bounded : (a b c : Bool) (excess : ℤ) → pos 0 ≤ℤ excess → excess ≤ℤ pos 1000000000 → (pos 0 ≤ℤ (cond a excess (pos 0) +ℤ cond b excess (pos 0) +ℤ cond (c && not b) excess (pos 0))) × ((cond a excess (pos 0) +ℤ cond b excess (pos 0) +ℤ cond (c && not b) excess (pos 0)) ≤ℤ pos 2000000000)
-grounds-bounded true true true excess low high = (omega (arith, ints), omega (arith, ints))
-grounds-bounded true true false excess low high = (omega (arith, ints), omega (arith, ints))
-grounds-bounded true false true excess low high = (omega (arith, ints), omega (arith, ints))
-grounds-bounded true false false excess low high = (omega (arith, ints), omega (arith, ints))
-grounds-bounded false true true excess low high = (omega (arith, ints), omega (arith, ints))
-grounds-bounded false true false excess low high = (omega (arith, ints), omega (arith, ints))
-grounds-bounded false false true excess low high = (omega (arith, ints), omega (arith, ints))
-grounds-bounded false false false excess low high = (omega (arith, ints), omega (arith, ints))
+grounds-bounded a b c excess low high = (grind (arith, ints), grind (arith, ints))
 
 module _ (committed current : List ℤ) (x : RucRecord) where
   -- the checks of a record, in order

@@ -3,7 +3,7 @@ use Rattle.std.specs.Prelude.{ℤ}
 use Rattle.market.specs.Laws.{Within}
 use Rattle.market.specs.Limits.{Admitted, power_limits, price_limits, no_load_limits, reserve_limits}
 
--- The parts of a cost: energy, no-load and reserve.
+-- The parts of a cost: energy, which sums three costs of tenths of a curve at the most, no-load and reserve.
 abbrev pub Payable : ℤ → ℤ → ℤ → Type 0
 Payable energy no_load reserve = Within 3000000000 energy × Admitted no_load_limits no_load × Admitted reserve_limits reserve
 

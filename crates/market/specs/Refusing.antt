@@ -1,12 +1,12 @@
 -- Answers that something may refuse.
-use Rattle.std.specs.Prelude.{◌≡◌, ℕ, ◌≤◌, Bool, true, false, cond, List, length, ℤ, Some, None, Option, nat_le, refl}
-use Rattle.std.proofs.Common.{subst, arith}
+use Rattle.std.specs.Prelude.{◌≡◌, ℕ, ◌≤◌, List, length, ℤ, Some, None, Option, refl}
+use Rattle.std.proofs.Common.{arith}
 use Rattle.std.proofs.lemmas.Bool.Decides.{nat_tests}
 use Rattle.offers.specs.Answers.{or_else, unless}
 use Rattle.market.specs.declared.amounts.Amounts.{Amounts}
 use Rattle.market.specs.declared.amounts.Figures.{Figures}
 use Rattle.market.specs.declared.refusal.ProcessRefusal.{ProcessRefusal}
-use Rattle.market.specs.declared.refusal.ProcessRefusal.TheVariants.{NoSuchTenth}
+use Rattle.market.specs.declared.refusal.ProcessRefusal.TheVariants.{FieldOutsideLimits, NoSuchTenth}
 use Rattle.market.specs.Laws.{Bounded, LawfulRefusal, LawfulMeaning}
 use Rattle.market.specs.Curves.{tenth_refusal}
 
@@ -34,8 +34,5 @@ none-tenth ps q h = grind (arith, nat_tests)
 
 -- a tenth has any number
 pub tenth-named : (ps : List ℤ) (q : ℕ) (e : ProcessRefusal) → tenth_refusal ps q ≡ Some e → LawfulRefusal e
-tenth-named ps q e h = go (nat_le q (length ps)) h
-  where
-    go : (b : Bool) → cond b None (Some (NoSuchTenth q)) ≡ Some e → LawfulRefusal e
-    go true k = absurd (cc)
-    go false k = let same : NoSuchTenth q ≡ e = cc in subst LawfulRefusal same tt
+tenth-named ps q (NoSuchTenth tenth) h = tt
+tenth-named ps q (FieldOutsideLimits field) h = absurd (grind (arith, nat_tests))

@@ -22,6 +22,7 @@ pub trait MarketProcess {
 
     const POT: u8;
 
+    // The constants, as contracts name them.
     ghost NUMBER: { ℕ };
 
     ghost LENGTH: { ℕ };

@@ -5,6 +5,7 @@ use Rattle.std.proofs.ByRecursion.{All-take}
 use Rattle.std.proofs.lemmas.List.{length-take}
 use Rattle.std.proofs.lemmas.Int.{ints}
 use Rattle.std.proofs.lemmas.Bool.Decides.{leb_tells}
+use Rattle.std.proofs.lemmas.Grind.{common_steps}
 use Rattle.std.specs.List.{AllByRecursion}
 use Rattle.offers.specs.Prices.{InRange, Lawful}
 use Rattle.offers.specs.Sums.{total-near}
@@ -19,10 +20,7 @@ cost-of-tenths ps q within =
 
 -- the tenths between two outputs
 cost-between : (ps : List ℤ) (low high : ℕ) → AllByRecursion InRange ps → low ≤ high → Within (100000 * (high - low)) (cost_up_to ps high -ℤ cost_up_to ps low)
-cost-between [] zero zero within h = (omega (arith, ints), omega (arith, ints))
-cost-between [] zero (suc high) within h = (omega (arith, ints), omega (arith, ints))
-cost-between [] (suc low) zero within h = absurd (omega arith)
-cost-between [] (suc low) (suc high) within h = (omega (arith, ints), omega (arith, ints))
+cost-between [] low high within h = (grind (arith, ints, common_steps), grind (arith, ints, common_steps))
 cost-between (p ∷ ps) zero high within h = let c = cost-of-tenths (p ∷ ps) high within in (omega (arith, ints), omega (arith, ints))
 cost-between (p ∷ ps) (suc low) zero within h = absurd (omega arith)
 cost-between (p ∷ ps) (suc low) (suc high) within h = let c = cost-between ps low high within.1 (omega arith) in (omega (arith, ints), omega (arith, ints))

@@ -18,7 +18,3 @@ tenth_refusal ps tenths = cond (nat_le tenths (top_of ps)) None (Some (NoSuchTen
 -- What a check answers: nothing, or its refusal.
 abbrev pub checked : Option ProcessRefusal → Result (Unit {0}) ProcessRefusal
 checked refusal = unless refusal tt
-
--- The cost, or the refusal of the curve.
-abbrev pub cost_at : List ℤ → ℕ → Result ℤ ProcessRefusal
-cost_at ps tenths = unless (tenth_refusal ps tenths) (cost_up_to ps tenths)

@@ -21,17 +21,24 @@ day_ahead_fields x = x.cleared ∷ x.price ∷ x.no_load ∷ x.reserve_cost ∷ 
 abbrev pub day_ahead_limits : List Limits
 day_ahead_limits = power_limits ∷ price_limits ∷ no_load_limits ∷ reserve_limits ∷ reserve_limits ∷ []
 
+-- The first field outside its row.
+abbrev pub day_ahead_field_refusal : DayAheadRecord → Option ProcessRefusal
+day_ahead_field_refusal x = field_refusal 1 day_ahead_limits (day_ahead_fields x)
+
 -- The fields are looked at first, then the curve.
 unfoldable pub day_ahead_refusal : List ℤ → DayAheadRecord → Option ProcessRefusal
-day_ahead_refusal ps x = or_else (field_refusal 1 day_ahead_limits (day_ahead_fields x)) (tenth_refusal ps (unsigned_abs x.cleared))
+day_ahead_refusal ps x = or_else (day_ahead_field_refusal x) (tenth_refusal ps (unsigned_abs x.cleared))
 
--- Twelve intervals of cost and revenue; nothing is disallowed.
-abbrev pub day_ahead_amounts : List ℤ → DayAheadRecord → Amounts
-day_ahead_amounts ps x = record {
-  cost = pos 12 *ℤ interval_cost (cost_up_to ps (unsigned_abs x.cleared)) x.no_load x.reserve_cost;
+-- Twelve intervals of cost and revenue, where the energy of one costs so much; nothing is disallowed.
+abbrev pub hour_amounts : ℤ → DayAheadRecord → Amounts
+hour_amounts energy x = record {
+  cost = pos 12 *ℤ interval_cost energy x.no_load x.reserve_cost;
   revenue = pos 12 *ℤ interval_revenue x.cleared x.price x.reserve_revenue;
   disallowed = pos 0;
 }
+
+abbrev pub day_ahead_amounts : List ℤ → DayAheadRecord → Amounts
+day_ahead_amounts ps x = hour_amounts (cost_up_to ps (unsigned_abs x.cleared)) x
 
 abbrev pub day_ahead_meaning : List ℤ → DayAheadRecord → Result Amounts ProcessRefusal
 day_ahead_meaning ps x = unless (day_ahead_refusal ps x) (day_ahead_amounts ps x)

@@ -5,6 +5,10 @@ use Rattle.market.specs.declared.amounts.Figures.{Figures}
 use Rattle.market.specs.declared.refusal.ProcessRefusal.{ProcessRefusal}
 use Rattle.market.specs.declared.refusal.ProcessRefusal.TheVariants.{FieldOutsideLimits, NoSuchTenth}
 
+-- The figures of a process by its four constants.
+abbrev pub figures_of : ℕ → ℕ → Bool → ℕ → Figures
+figures_of number length takes_over pot = record { number = number; length = length; takes_over = takes_over; pot = pot }
+
 -- The lengths of a step, in intervals: twelve of them make an hour.
 abbrev pub is_length : ℕ → Bool
 is_length n = n == 1 || (n == 2 || (n == 3 || (n == 4 || (n == 6 || n == 12))))

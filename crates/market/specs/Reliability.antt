@@ -26,11 +26,15 @@ maximum_limits x = record { lowest = int_max power_limits.lowest x.commitment_mi
 abbrev pub ruc_limits : RucRecord → List Limits
 ruc_limits x = power_limits ∷ power_limits ∷ maximum_limits x ∷ power_limits ∷ power_limits ∷ power_limits ∷ price_limits ∷ no_load_limits ∷ flag_limits ∷ other_limits ∷ reserve_limits ∷ []
 
+-- The first field outside its row.
+abbrev pub ruc_field_refusal : RucRecord → Option ProcessRefusal
+ruc_field_refusal x = field_refusal 1 (ruc_limits x) (ruc_fields x)
+
 -- The fields are looked at first. Then the commitment minimum has to lie on both curves, maximum and actual output on the
 -- current one.
 unfoldable pub ruc_refusal : List ℤ → List ℤ → RucRecord → Option ProcessRefusal
 ruc_refusal committed current x =
-    or_else (field_refusal 1 (ruc_limits x) (ruc_fields x))
+    or_else (ruc_field_refusal x)
     (or_else (tenth_refusal committed (unsigned_abs x.commitment_minimum))
     (or_else (tenth_refusal current (unsigned_abs x.commitment_minimum))
     (or_else (tenth_refusal current (unsigned_abs x.maximum))

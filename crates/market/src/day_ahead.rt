@@ -1,26 +1,20 @@
 // The Day-Ahead Market: an hour cleared the day before.
 
-ghost use Rattle.std.specs.Prelude.{◌≡◌, pos, ◌*ℤ◌, is_ok, Decides, unsigned_abs};
-ghost use Rattle.market.specs.DayAhead.{day_ahead_figures, day_ahead_fields, day_ahead_limits, day_ahead_meaning, DayAheadTaken};
-ghost use Rattle.market.specs.Laws.{Within};
-ghost use Rattle.market.specs.Parts.{Payable, Sellable, day_ahead_cost_parts, day_ahead_revenue_parts, hour_of};
-ghost use Rattle.market.specs.Hours.{hour-lawful};
+ghost use Rattle.std.specs.Prelude.{◌≡◌, pos, ◌*ℤ◌, ◌↔◌, IsOk, MatchResult, unsigned_abs};
 ghost use Rattle.std.proofs.Common.{rules};
+ghost use Rattle.market.specs.Amounts.{interval_cost, interval_revenue};
+ghost use Rattle.market.specs.DayAhead.{day_ahead_figures, day_ahead_fields, day_ahead_limits, day_ahead_field_refusal, day_ahead_refusal, hour_amounts, day_ahead_meaning, DayAheadTaken};
+ghost use Rattle.market.specs.Hours.{hour-lawful};
+ghost use Rattle.market.specs.Laws.{Within};
+ghost use Rattle.market.specs.Limits.{AllAdmitted};
 
-use super::amounts::{Amounts, Figures};
-use super::asking::cost_at;
-use super::limits::{DAY_AHEAD_LIMITS, Limits, check_fields};
-use super::parts::{CostParts, RevenueParts, cost_of_parts, revenue_of_parts};
+use super::amounts::Amounts;
+use super::asking::{check_tenth, cost_of};
+use super::limits::{DAY_AHEAD_LIMITS, check_fields};
+use super::parts::{CostParts, RevenueParts};
 use super::process::MarketProcess;
 use super::refusal::ProcessRefusal;
 use offers::OfferCurve;
-
-const DAY_AHEAD: Figures = Figures {
-    number: 1,
-    length: 12,
-    takes_over: true,
-    pot: 0,
-};
 
 // One hour of a unit: the power cleared in tenths, its price in cents per MWh, the no-load offer in cents an hour, cost and
 // revenue of reserve in ticks an interval. Any numbers may stand in it.
@@ -47,62 +41,76 @@ impl DayAheadRecord {
         ]
     }
 
-    // The rows of the fields.
-    fn limits() -> [Limits; 5]
-        ensures { result ≡ day_ahead_limits }
+    // The record as one whose fields are within their limits, or the refusal of the first that is not.
+    fn limited(&self) -> Result<LimitedHour, ProcessRefusal>
+        ensures { MatchResult result (λ limited. (limited.fields ≡ self.now) × (day_ahead_field_refusal self.now ≡ None)) (λ refusal. day_ahead_field_refusal self.now ≡ Some refusal) }
     {
-        DAY_AHEAD_LIMITS
+        check_fields(self.fields(), DAY_AHEAD_LIMITS)?;
+        Ok(LimitedHour { fields: *self })
     }
+}
 
-    // The power cleared, of a record whose fields are within their limits.
+// A record whose fields are within their limits.
+#[derive(Clone, Copy)]
+struct LimitedHour {
+    fields: DayAheadRecord,
+    ghost limited: { AllAdmitted day_ahead_limits (day_ahead_fields fields) },
+}
+
+impl LimitedHour {
+    // The power cleared, in tenths.
     fn tenths(&self) -> u64
-        ensures { result ≡ unsigned_abs self.now.cleared }
+        ensures { result ≡ unsigned_abs self.now.fields.cleared }
     {
-        self.cleared.unsigned_abs()
+        self.fields.cleared.unsigned_abs()
     }
 
-    fn cost_parts(&self, energy: i64) -> CostParts
-        ensures { result ≡ day_ahead_cost_parts energy self.now }
+    // What an interval of the hour costs, in ticks, where its energy costs so much.
+    fn cost(&self, energy: i64) -> i64
+        requires { Within 1000000000 energy }
+        ensures value { result ≡ interval_cost energy self.now.fields.no_load self.now.fields.reserve_cost }
+        ensures modest { Within 3500000000 result }
     {
-        CostParts {
+        let parts = CostParts {
             energy,
-            no_load: self.no_load,
-            reserve: self.reserve_cost,
-        }
+            no_load: self.fields.no_load,
+            reserve: self.fields.reserve_cost,
+        };
+        parts.ticks()
     }
 
-    fn revenue_parts(&self) -> RevenueParts
-        ensures { result ≡ day_ahead_revenue_parts self.now }
+    // What an interval of the hour earns, in ticks.
+    fn revenue(&self) -> i64
+        ensures value { result ≡ interval_revenue self.now.fields.cleared self.now.fields.price self.now.fields.reserve_revenue }
+        ensures modest { Within 3500000000 result }
     {
-        RevenueParts {
-            power: self.cleared,
-            price: self.price,
-            other: self.reserve_revenue,
+        let parts = RevenueParts {
+            power: self.fields.cleared,
+            price: self.fields.price,
+            other: self.fields.reserve_revenue,
+        };
+        parts.ticks()
+    }
+
+    // Twelve intervals of cost and revenue; nothing is disallowed.
+    fn amounts(&self, energy: i64) -> Amounts
+        requires { Within 1000000000 energy }
+        ensures { result ≡ hour_amounts energy self.now.fields }
+    {
+        Amounts {
+            cost: hourly(self.cost(energy)),
+            revenue: hourly(self.revenue()),
+            disallowed: 0,
         }
     }
 }
 
 // What an interval's amount comes to in an hour.
 fn hourly(ticks: i64) -> i64
-    requires { Within 1500000000 ticks }
+    requires { Within 3500000000 ticks }
     ensures { result ≡ pos 12 *ℤ ticks }
 {
     12 * ticks
-}
-
-// An hour of these parts.
-fn hour_of(cost: CostParts, revenue: RevenueParts) -> Amounts
-    requires payable { Payable cost }
-    requires sellable { Sellable revenue }
-    ensures { result ≡ hour_of cost revenue }
-{
-    let spent = cost_of_parts(cost);
-    let earned = revenue_of_parts(revenue);
-    Amounts {
-        cost: hourly(spent),
-        revenue: hourly(earned),
-        disallowed: 0,
-    }
 }
 
 // The process of a unit that offered along this curve.
@@ -111,18 +119,36 @@ pub struct DayAhead<C> {
     pub curve: C,
 }
 
+impl<C: OfferCurve> DayAhead<C> {
+    // Fields first; then the power cleared has to lie on the curve.
+    #[tactic(auto, unfolding(crate::specs::DayAhead::day_ahead_refusal))]
+    fn check(&self, step: &DayAheadRecord) -> Result<LimitedHour, ProcessRefusal>
+        ensures { MatchResult result (λ limited. (limited.fields ≡ step.now) × (day_ahead_refusal (C.OfferCurve.prices self.now.curve) step.now ≡ None)) (λ refusal. day_ahead_refusal (C.OfferCurve.prices self.now.curve) step.now ≡ Some refusal) }
+    {
+        let hour = step.limited()?;
+        check_tenth(&self.curve, hour.tenths())?;
+        Ok(hour)
+    }
+}
+
 impl<C: OfferCurve> MarketProcess for DayAhead<C> {
     type Record = DayAheadRecord;
 
-    const NUMBER: u8 = DAY_AHEAD.number;
+    const NUMBER: u8 = 1;
 
-    const LENGTH: u64 = DAY_AHEAD.length;
+    const LENGTH: u64 = 12;
 
-    const TAKES_OVER: bool = DAY_AHEAD.takes_over;
+    const TAKES_OVER: bool = true;
 
-    const POT: u8 = DAY_AHEAD.pot;
+    const POT: u8 = 0;
 
-    ghost figures = { day_ahead_figures };
+    ghost NUMBER = { day_ahead_figures.number };
+
+    ghost LENGTH = { day_ahead_figures.length };
+
+    ghost TAKES_OVER = { day_ahead_figures.takes_over };
+
+    ghost POT = { day_ahead_figures.pot };
 
     ghost meaning = { λ p x. day_ahead_meaning (C.OfferCurve.prices p.curve) x };
 
@@ -130,18 +156,13 @@ impl<C: OfferCurve> MarketProcess for DayAhead<C> {
 
     ghost bounded = { λ p x. hour-lawful (C.OfferCurve.prices p.curve) x (C.OfferCurve.lawful p.curve) };
 
-    fn figures() -> Figures
-        ensures { result ≡ day_ahead_figures }
-    {
-        DAY_AHEAD
-    }
-
+    #[tactic(auto, using(crate::specs::Hours::taken_hour, crate::specs::Hours::hour_taken))]
     fn settle(&self, step: &DayAheadRecord) -> Result<Amounts, ProcessRefusal>
         ensures value { result ≡ day_ahead_meaning (C.OfferCurve.prices self.now.curve) step.now }
-        ensures taken { Decides (is_ok result) (DayAheadTaken (C.OfferCurve.prices self.now.curve) step.now) }
+        ensures taken { IsOk result ↔ DayAheadTaken (C.OfferCurve.prices self.now.curve) step.now }
     {
-        check_fields(&step.fields(), &DayAheadRecord::limits())?;
-        let energy = cost_at(&self.curve, step.tenths())?;
-        Ok(hour_of(step.cost_parts(energy), step.revenue_parts()))
+        let hour = self.check(step)?;
+        let energy = cost_of(&self.curve, hour.tenths());
+        Ok(hour.amounts(energy))
     }
 }

@@ -1,8 +1,8 @@
 // The limits of the fields of a record, and the check that walks them.
 
-ghost use Rattle.std.specs.Prelude.{◌≡◌, length};
+ghost use Rattle.std.specs.Prelude.{◌≡◌, OnOk};
 ghost use Rattle.market.specs.Curves.{checked};
-ghost use Rattle.market.specs.Limits.{admitted, field_refusal};
+ghost use Rattle.market.specs.Limits.{AllAdmitted, admitted, field_refusal};
 
 use super::refusal::ProcessRefusal;
 use offers::{HIGHEST_PRICE, LOWEST_PRICE};
@@ -78,14 +78,19 @@ impl Limits {
 }
 
 // The first field outside its row is refused.
-pub(crate) fn check_fields(fields: &[i64], limits: &[Limits]) -> Result<(), ProcessRefusal>
-    requires { length fields.now ≡ length limits.now }
-    ensures { result ≡ checked (field_refusal 1 limits.now fields.now) }
+pub(crate) fn check_fields<const N: usize>(
+    fields: [i64; N],
+    limits: [Limits; N],
+) -> Result<(), ProcessRefusal>
+    ensures value { result ≡ checked (field_refusal 1 limits.entry fields.entry) }
+    ensures admitted { OnOk result (AllAdmitted limits.entry fields.entry) }
 {
-    for (i, row) in limits.iter().enumerate() {
-        if !row.admits(fields[i]) {
-            return Err(ProcessRefusal::FieldOutsideLimits(i as u64 + 1));
-        }
+    let outside = limits
+        .iter()
+        .zip(fields.iter())
+        .position(|(row, number)| !row.admits(*number));
+    match outside {
+        Some(i) => Err(ProcessRefusal::FieldOutsideLimits(i as u64 + 1)),
+        None => Ok(()),
     }
-    Ok(())
 }

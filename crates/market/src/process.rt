@@ -1,10 +1,10 @@
 // The interface of a market process.
 
-ghost use Rattle.std.specs.Prelude.{◌≡◌, Result};
+ghost use Rattle.std.specs.Prelude.{◌≡◌, ℕ, Bool, Result};
 ghost use Rattle.market.specs.declared.amounts.Amounts.{Amounts};
 ghost use Rattle.market.specs.declared.amounts.Figures.{Figures};
 ghost use Rattle.market.specs.declared.refusal.ProcessRefusal.{ProcessRefusal};
-ghost use Rattle.market.specs.Laws.{LawfulFigures, LawfulMeaning};
+ghost use Rattle.market.specs.Laws.{figures_of, LawfulFigures, LawfulMeaning};
 
 use super::amounts::{Amounts, Figures};
 use super::refusal::ProcessRefusal;
@@ -22,19 +22,34 @@ pub trait MarketProcess {
 
     const POT: u8;
 
-    ghost figures: { Figures };
+    // The constants, as contracts name them.
+    ghost NUMBER: { ℕ };
+
+    ghost LENGTH: { ℕ };
+
+    ghost TAKES_OVER: { Bool };
+
+    ghost POT: { ℕ };
 
     ghost meaning: { Self → Self.Record → Result Amounts ProcessRefusal };
-
-    // The four figures that the constants repeat: contracts and generic code go by this answer.
-    fn figures() -> Figures
-        ensures { result ≡ figures };
 
     // What a record costs, earns and is disallowed, or its refusal.
     fn settle(&self, step: &Self::Record) -> Result<Amounts, ProcessRefusal>
         ensures { result ≡ meaning self.now step.now };
 
-    ghost lawful: { LawfulFigures figures };
+    // The four constants as one value.
+    final fn figures() -> Figures
+        ensures { result ≡ figures_of NUMBER LENGTH TAKES_OVER POT }
+    {
+        Figures {
+            number: Self::NUMBER,
+            length: Self::LENGTH,
+            takes_over: Self::TAKES_OVER,
+            pot: Self::POT,
+        }
+    }
 
-    ghost bounded: { (p : Self) (x : Self.Record) → LawfulMeaning figures (meaning p x) };
+    ghost lawful: { LawfulFigures (figures_of NUMBER LENGTH TAKES_OVER POT) };
+
+    ghost bounded: { (p : Self) (x : Self.Record) → LawfulMeaning (figures_of NUMBER LENGTH TAKES_OVER POT) (meaning p x) };
 }

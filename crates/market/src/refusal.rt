@@ -1,9 +1,9 @@
 // The refusals of a market process.
 
-ghost use Rattle.std.specs.Prelude.{◌≡◌, Some};
-ghost use Rattle.market.specs.Refusals.{told, sentence};
+ghost use Rattle.std.specs.Prelude.{Some};
+ghost use Rattle.market.specs.Refusals.{process_told, sentence};
 
-use offers::Layer;
+use offers::{Layer, Refusal};
 use std::fmt;
 
 // Why a record was not settled. Fields count from 1; the tenth is the one that was asked of a curve.
@@ -13,20 +13,17 @@ pub enum ProcessRefusal {
     NoSuchTenth(u64),
 }
 
-impl ProcessRefusal {
-    // The number in the table of refusals.
-    pub fn number(&self) -> u8
-        ensures { result ≡ (told self.now).number }
-    {
+impl Refusal for ProcessRefusal {
+    ghost told = { process_told };
+
+    fn number(&self) -> u8 {
         match *self {
             ProcessRefusal::FieldOutsideLimits(_) => 14,
             ProcessRefusal::NoSuchTenth(_) => 13,
         }
     }
 
-    pub fn layer(&self) -> Layer
-        ensures { result ≡ (told self.now).layer }
-    {
+    fn layer(&self) -> Layer {
         match *self {
             ProcessRefusal::FieldOutsideLimits(_) => Layer::Process,
             ProcessRefusal::NoSuchTenth(_) => Layer::Curve,
@@ -34,9 +31,7 @@ impl ProcessRefusal {
     }
 
     // The field or the tenth at fault.
-    pub fn place(&self) -> u64
-        ensures { result ≡ (told self.now).place }
-    {
+    fn place(&self) -> u64 {
         match *self {
             ProcessRefusal::FieldOutsideLimits(field) => field,
             ProcessRefusal::NoSuchTenth(tenth) => tenth,

@@ -1,28 +1,17 @@
 // Reliability Unit Commitment (RUC): an interval of a unit that was committed after the Day-Ahead Market.
 
-ghost use Rattle.std.specs.Prelude.{◌≡◌, is_ok, Decides};
-ghost use Rattle.offers.specs.Answers.{unless};
-ghost use Rattle.market.specs.Curves.{checked, cost_at};
-ghost use Rattle.market.specs.Reliability.{ruc_figures, ruc_refusal, economic_point, ruc_meaning, RucTaken};
-ghost use Rattle.market.specs.Parts.{Billable, ruc_costs, ruc_amounts_of};
-ghost use Rattle.market.specs.Intervals.{interval-lawful};
+ghost use Rattle.std.specs.Prelude.{◌≡◌, ◌↔◌, IsOk, MatchResult};
 ghost use Rattle.std.proofs.Common.{rules};
+ghost use Rattle.offers.specs.Answers.{unless};
+ghost use Rattle.market.specs.Intervals.{interval-lawful};
+ghost use Rattle.market.specs.Reliability.{ruc_figures, ruc_refusal, energy_of, energy_cost, economic_point, excess_of, excess_cost, ruc_meaning, RucTaken};
 
-use super::amounts::{Amounts, Figures};
-use super::asking::cost_at;
-use super::limits::check_fields;
-use super::parts::{cost_of_parts, revenue_of_parts};
+use super::amounts::Amounts;
+use super::asking::{check_tenth, cost_of};
 use super::process::MarketProcess;
 use super::refusal::ProcessRefusal;
-use super::ruc_record::{RucCosts, RucRecord, disallowed_of};
+use super::ruc_record::{LimitedInterval, RucCosts, RucRecord};
 use offers::OfferCurve;
-
-const RUC: Figures = Figures {
-    number: 2,
-    length: 1,
-    takes_over: false,
-    pot: 1,
-};
 
 // The process of a unit by the curve of the commitment decision and the current curve, which may differ in make.
 #[derive(Drop)]
@@ -31,49 +20,24 @@ pub struct Ruc<C, N> {
     pub current: N,
 }
 
-// The amounts of an interval whose tenths cost so much.
-fn amounts_of(costs: RucCosts, step: RucRecord) -> Amounts
-    requires { Billable costs step }
-    ensures { result ≡ ruc_amounts_of costs step }
-{
-    Amounts {
-        cost: cost_of_parts(step.cost_parts(costs.energy())),
-        revenue: revenue_of_parts(step.revenue_parts()),
-        disallowed: disallowed_of(step, costs.excess()),
-    }
-}
-
 impl<C: OfferCurve, N: OfferCurve> Ruc<C, N> {
-    // The cost of the first tenths by the curve of the commitment decision.
-    fn committed_cost(&self, tenths: u64) -> Result<i64, ProcessRefusal>
-        ensures { result ≡ cost_at (C.OfferCurve.prices self.now.committed) tenths }
-    {
-        cost_at(&self.committed, tenths)
-    }
-
-    // The cost of the first tenths by the current curve.
-    fn current_cost(&self, tenths: u64) -> Result<i64, ProcessRefusal>
-        ensures { result ≡ cost_at (N.OfferCurve.prices self.now.current) tenths }
-    {
-        cost_at(&self.current, tenths)
-    }
-
     // Fields first; then the commitment minimum, the maximum and the actual output have to lie on the curves.
-    fn check(&self, step: &RucRecord) -> Result<(), ProcessRefusal>
-        ensures { result ≡ checked (ruc_refusal (C.OfferCurve.prices self.now.committed) (N.OfferCurve.prices self.now.current) step.now) }
+    #[tactic(auto, unfolding(crate::specs::Reliability::ruc_refusal))]
+    fn check(&self, step: &RucRecord) -> Result<LimitedInterval, ProcessRefusal>
+        ensures { MatchResult result (λ limited. (limited.fields ≡ step.now) × (ruc_refusal (C.OfferCurve.prices self.now.committed) (N.OfferCurve.prices self.now.current) step.now ≡ None)) (λ refusal. ruc_refusal (C.OfferCurve.prices self.now.committed) (N.OfferCurve.prices self.now.current) step.now ≡ Some refusal) }
     {
-        check_fields(&step.fields(), &step.limits())?;
-        self.committed_cost(step.least())?;
-        self.current_cost(step.least())?;
-        self.current_cost(step.most())?;
-        self.current_cost(step.output())?;
-        Ok(())
+        let interval = step.limited()?;
+        check_tenth(&self.committed, interval.least())?;
+        check_tenth(&self.current, interval.least())?;
+        check_tenth(&self.current, interval.most())?;
+        check_tenth(&self.current, interval.output())?;
+        Ok(interval)
     }
 
-    fn point(&self, step: &RucRecord) -> u64
-        ensures { result ≡ economic_point (N.OfferCurve.prices self.now.current) step.now }
+    fn point(&self, interval: &LimitedInterval) -> u64
+        ensures { result ≡ economic_point (N.OfferCurve.prices self.now.current) interval.now.fields }
     {
-        step.nearest(self.current.count(step.price))
+        interval.nearest(self.current.count(interval.price()))
     }
 
     // The economic operating point of a record: the tenths that run at its price, raised to the commitment minimum or lowered
@@ -81,35 +45,43 @@ impl<C: OfferCurve, N: OfferCurve> Ruc<C, N> {
     pub fn economic_point(&self, step: &RucRecord) -> Result<u64, ProcessRefusal>
         ensures { result ≡ unless (ruc_refusal (C.OfferCurve.prices self.now.committed) (N.OfferCurve.prices self.now.current) step.now) (economic_point (N.OfferCurve.prices self.now.current) step.now) }
     {
-        self.check(step)?;
-        Ok(self.point(step))
+        let interval = self.check(step)?;
+        Ok(self.point(&interval))
     }
 
-    fn costs(&self, step: &RucRecord) -> Result<RucCosts, ProcessRefusal>
-        ensures { result ≡ unless (ruc_refusal (C.OfferCurve.prices self.now.committed) (N.OfferCurve.prices self.now.current) step.now) (ruc_costs (C.OfferCurve.prices self.now.committed) (N.OfferCurve.prices self.now.current) step.now) }
+    // What the tenths of a record that was checked cost.
+    fn costs(&self, interval: &LimitedInterval) -> RucCosts
+        requires { RucTaken (C.OfferCurve.prices self.now.committed) (N.OfferCurve.prices self.now.current) interval.now.fields }
+        ensures energy { energy_of result.committed result.actual result.replaced ≡ energy_cost (C.OfferCurve.prices self.now.committed) (N.OfferCurve.prices self.now.current) interval.now.fields }
+        ensures excess { excess_of result.actual result.economic ≡ excess_cost (N.OfferCurve.prices self.now.current) interval.now.fields }
     {
-        self.check(step)?;
-        Ok(RucCosts {
-            committed: self.committed_cost(step.held())?,
-            replaced: self.current_cost(step.held())?,
-            actual: self.current_cost(step.output())?,
-            economic: self.current_cost(self.point(step))?,
-        })
+        RucCosts {
+            committed: cost_of(&self.committed, interval.held()),
+            replaced: cost_of(&self.current, interval.held()),
+            actual: cost_of(&self.current, interval.output()),
+            economic: cost_of(&self.current, self.point(interval)),
+        }
     }
 }
 
 impl<C: OfferCurve, N: OfferCurve> MarketProcess for Ruc<C, N> {
     type Record = RucRecord;
 
-    const NUMBER: u8 = RUC.number;
+    const NUMBER: u8 = 2;
 
-    const LENGTH: u64 = RUC.length;
+    const LENGTH: u64 = 1;
 
-    const TAKES_OVER: bool = RUC.takes_over;
+    const TAKES_OVER: bool = false;
 
-    const POT: u8 = RUC.pot;
+    const POT: u8 = 1;
 
-    ghost figures = { ruc_figures };
+    ghost NUMBER = { ruc_figures.number };
+
+    ghost LENGTH = { ruc_figures.length };
+
+    ghost TAKES_OVER = { ruc_figures.takes_over };
+
+    ghost POT = { ruc_figures.pot };
 
     ghost meaning = { λ p x. ruc_meaning (C.OfferCurve.prices p.committed) (N.OfferCurve.prices p.current) x };
 
@@ -117,17 +89,12 @@ impl<C: OfferCurve, N: OfferCurve> MarketProcess for Ruc<C, N> {
 
     ghost bounded = { λ p x. interval-lawful (C.OfferCurve.prices p.committed) (N.OfferCurve.prices p.current) x (C.OfferCurve.lawful p.committed) (N.OfferCurve.lawful p.current) };
 
-    fn figures() -> Figures
-        ensures { result ≡ ruc_figures }
-    {
-        RUC
-    }
-
+    #[tactic(auto, using(crate::specs::Intervals::taken_interval, crate::specs::Intervals::interval_taken))]
     fn settle(&self, step: &RucRecord) -> Result<Amounts, ProcessRefusal>
         ensures value { result ≡ ruc_meaning (C.OfferCurve.prices self.now.committed) (N.OfferCurve.prices self.now.current) step.now }
-        ensures taken { Decides (is_ok result) (RucTaken (C.OfferCurve.prices self.now.committed) (N.OfferCurve.prices self.now.current) step.now) }
+        ensures taken { IsOk result ↔ RucTaken (C.OfferCurve.prices self.now.committed) (N.OfferCurve.prices self.now.current) step.now }
     {
-        let costs = self.costs(step)?;
-        Ok(amounts_of(costs, *step))
+        let interval = self.check(step)?;
+        Ok(interval.amounts(self.costs(&interval)))
     }
 }

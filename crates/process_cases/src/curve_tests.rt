@@ -51,11 +51,16 @@ fn hour_of_b(rt: HostRuntime) -> Result<(), Fail> {
         reserve_cost: 0,
         reserve_revenue: 0,
     };
-    check_amounts(&rt, process.settle(&hour), (4_920_000, 3_960_000, 0))?;
+    check_amounts(&rt, process.settle(&hour), (4_920_000, 3_960_000, 0));
     // A tick of reserve each way is 12 an hour.
-    let reserve = hour_with(hour_with(hour, 4, 1), 5, 1);
-    check_amounts(&rt, process.settle(&reserve), (4_920_012, 3_960_012, 0))?;
-    check_amounts(&rt, process.settle(&hour), (4_920_000, 3_960_000, 0))
+    let reserve = DayAheadRecord {
+        reserve_cost: 1,
+        reserve_revenue: 1,
+        ..hour
+    };
+    check_amounts(&rt, process.settle(&reserve), (4_920_012, 3_960_012, 0));
+    check_amounts(&rt, process.settle(&hour), (4_920_000, 3_960_000, 0));
+    Ok(())
 }
 
 // The ends of every range: 12 x (1,000,000,000 + 100,000,000 + 400,000,000) and 12 x (1,000,000,000 + 400,000,000).
@@ -72,16 +77,21 @@ fn largest_hours(rt: HostRuntime) -> Result<(), Fail> {
     let dear = DayAhead {
         curve: curve_of(heap, &[(5_000, 100_000), (5_000, 100_000)])?,
     };
-    check_amounts(&rt, dear.settle(&most), (18_000_000_000, 16_800_000_000, 0))?;
+    check_amounts(&rt, dear.settle(&most), (18_000_000_000, 16_800_000_000, 0));
     let paid = DayAhead {
         curve: curve_of(heap, &[(5_000, -100_000), (5_000, -100_000)])?,
     };
-    let least = hour_with(hour_with(IDLE_HOUR, 1, 10_000), 2, -100_000);
+    let least = DayAheadRecord {
+        cleared: 10_000,
+        price: -100_000,
+        ..IDLE_HOUR
+    };
     check_amounts(
         &rt,
         paid.settle(&least),
         (-12_000_000_000, -12_000_000_000, 0),
-    )
+    );
+    Ok(())
 }
 
 // 10 tenths at -50, sold at -60: 12 x -500 and 12 x -600. Nothing cleared costs the no-load offer alone.
@@ -90,14 +100,19 @@ fn negative_prices_and_nothing_cleared(rt: HostRuntime) -> Result<(), Fail> {
     let process = DayAhead {
         curve: curve_of(rt.alloc(), &[(10, -50), (10, 20)])?,
     };
-    let hour = hour_with(hour_with(IDLE_HOUR, 1, 10), 2, -60);
-    check_amounts(&rt, process.settle(&hour), (-6_000, -7_200, 0))?;
-    check_amounts(
-        &rt,
-        process.settle(&hour_with(IDLE_HOUR, 3, 7)),
-        (840, 0, 0),
-    )?;
-    check_amounts(&rt, process.settle(&IDLE_HOUR), (0, 0, 0))
+    let hour = DayAheadRecord {
+        cleared: 10,
+        price: -60,
+        ..IDLE_HOUR
+    };
+    check_amounts(&rt, process.settle(&hour), (-6_000, -7_200, 0));
+    let standing = DayAheadRecord {
+        no_load: 7,
+        ..IDLE_HOUR
+    };
+    check_amounts(&rt, process.settle(&standing), (840, 0, 0));
+    check_amounts(&rt, process.settle(&IDLE_HOUR), (0, 0, 0));
+    Ok(())
 }
 
 // Commitment minimum 100, maximum 150, actual output 160.
@@ -137,8 +152,8 @@ fn tenths_asked_of_each_curve(rt: HostRuntime) -> Result<(), Fail> {
         };
         let told = process.settle(&AHEAD_OF_MAXIMUM);
         match refused {
-            Some(tenth) => check_tenth(&rt, told, tenth)?,
-            None => check_amounts(&rt, told, (0, 0, 0))?,
+            Some(tenth) => check_tenth(&rt, told, tenth),
+            None => check_amounts(&rt, told, (0, 0, 0)),
         }
     }
     Ok(())
@@ -168,17 +183,18 @@ fn intervals_on_curves_of_two_makes(rt: HostRuntime) -> Result<(), Fail> {
         committed: curve_b(heap)?,
         current: curve_c(heap)?,
     };
-    check_amounts(&rt, raised.settle(&RUNNING), (365_000, 374_250, 0))?;
+    check_amounts(&rt, raised.settle(&RUNNING), (365_000, 374_250, 0));
     let lowered = Ruc {
         committed: curve_c(heap)?,
         current: curve_b(heap)?,
     };
-    check_amounts(&rt, lowered.settle(&RUNNING), (380_000, 374_250, 0))?;
+    check_amounts(&rt, lowered.settle(&RUNNING), (380_000, 374_250, 0));
     let capped = Ruc {
         committed: curve_c(heap)?,
         current: Cap::new(curve_c(heap)?, 2_500)?,
     };
-    check_amounts(&rt, capped.settle(&RUNNING), (355_000, 374_250, 0))
+    check_amounts(&rt, capped.settle(&RUNNING), (355_000, 374_250, 0));
+    Ok(())
 }
 
 // Output below the commitment minimum is priced as decided on, all of it: 60 x 2,000, and 60 x 2,495 earned. A cent of
@@ -189,10 +205,20 @@ fn output_below_the_commitment_minimum(rt: HostRuntime) -> Result<(), Fail> {
         committed: curve_b(rt.alloc())?,
         current: curve_c(rt.alloc())?,
     };
-    let low = interval_with(interval_with(RUNNING, 4, 60), 5, 60);
-    check_amounts(&rt, process.settle(&low), (120_000, 149_700, 0))?;
-    let paid = interval_with(interval_with(interval_with(low, 8, 7), 10, -500), 11, 9);
-    check_amounts(&rt, process.settle(&paid), (120_079, 149_200, 0))
+    let low = RucRecord {
+        setpoint: 60,
+        actual: 60,
+        ..RUNNING
+    };
+    check_amounts(&rt, process.settle(&low), (120_000, 149_700, 0));
+    let paid = RucRecord {
+        no_load: 7,
+        other_revenue: -500,
+        reserve_cost: 9,
+        ..low
+    };
+    check_amounts(&rt, process.settle(&paid), (120_079, 149_200, 0));
+    Ok(())
 }
 
 // No output: what is left are no-load, reserve and other revenue.
@@ -202,14 +228,20 @@ fn no_output(rt: HostRuntime) -> Result<(), Fail> {
         committed: curve_b(rt.alloc())?,
         current: curve_c(rt.alloc())?,
     };
-    let still = interval_with(interval_with(RUNNING, 4, 0), 5, 0);
-    check_amounts(&rt, process.settle(&still), (0, 0, 0))?;
-    let paid = interval_with(
-        interval_with(interval_with(still, 8, 6_000), 10, 40),
-        11,
-        30,
-    );
-    check_amounts(&rt, process.settle(&paid), (60_030, 40, 0))
+    let still = RucRecord {
+        setpoint: 0,
+        actual: 0,
+        ..RUNNING
+    };
+    check_amounts(&rt, process.settle(&still), (0, 0, 0));
+    let paid = RucRecord {
+        no_load: 6_000,
+        other_revenue: 40,
+        reserve_cost: 30,
+        ..still
+    };
+    check_amounts(&rt, process.settle(&paid), (60_030, 40, 0));
+    Ok(())
 }
 
 // 3 x 500 spent and 3 x 200 earned: a net of 900, through code that knows no process.
@@ -219,13 +251,13 @@ fn a_third_partys_process(rt: HostRuntime) -> Result<(), Fail> {
         spent: 500,
         earned: 200,
     };
-    check_amounts(&rt, Metered.settle(&record), (1_500, 600, 0))?;
+    check_amounts(&rt, Metered.settle(&record), (1_500, 600, 0));
     assert_eq!(rt; net_of(&Metered, &record).ok(), Some(900));
     let wrong = MeteredRecord {
         spent: 0,
         earned: -1,
     };
-    check_field(&rt, Metered.settle(&wrong), 2)?;
+    check_field(&rt, Metered.settle(&wrong), 2);
     assert!(rt; net_of(&Metered, &wrong).is_err());
     Ok(())
 }
@@ -236,7 +268,12 @@ fn net_of_an_hour(rt: HostRuntime) -> Result<(), Fail> {
     let process = DayAhead {
         curve: curve_b(rt.alloc())?,
     };
-    let hour = hour_with(hour_with(hour_with(IDLE_HOUR, 1, 150), 2, 2_200), 3, 6_000);
+    let hour = DayAheadRecord {
+        cleared: 150,
+        price: 2_200,
+        no_load: 6_000,
+        ..IDLE_HOUR
+    };
     assert_eq!(rt; net_of(&process, &hour).ok(), Some(960_000));
     Ok(())
 }

@@ -36,9 +36,7 @@ fn check_disallowed(
     interval: RucRecord,
     ticks: i64,
 ) -> Result<(), Fail> {
-    let Ok(amounts) = unit(heap)?.settle(&interval) else {
-        return Err(Fail::new("refused"));
-    };
+    let amounts = unit(heap)?.settle(&interval)?;
     assert_eq!(rt; amounts.disallowed, ticks);
     Ok(())
 }
@@ -65,10 +63,12 @@ const GROUNDS: [(i64, i64, i64, i64); 14] = [
 #[test]
 fn grounds_alone_and_together(rt: HostRuntime) -> Result<(), Fail> {
     for (minimum_now, setpoint, non_dispatchable, ticks) in GROUNDS {
-        let mut interval = STEADY;
-        interval.minimum_now = minimum_now;
-        interval.setpoint = setpoint;
-        interval.non_dispatchable = non_dispatchable;
+        let interval = RucRecord {
+            minimum_now,
+            setpoint,
+            non_dispatchable,
+            ..STEADY
+        };
         check_disallowed(&rt, rt.alloc(), interval, ticks)?;
     }
     Ok(())
@@ -77,13 +77,21 @@ fn grounds_alone_and_together(rt: HostRuntime) -> Result<(), Fail> {
 // With a minimum now of 130 the third ground still counts from the commitment minimum: 50 x 3,300, not 20 x 3,300.
 #[test]
 fn minimum_now_moves_no_point(rt: HostRuntime) -> Result<(), Fail> {
-    check_disallowed(&rt, rt.alloc(), interval_with(STEADY, 2, 130), 165_000)
+    let raised = RucRecord {
+        minimum_now: 130,
+        ..STEADY
+    };
+    check_disallowed(&rt, rt.alloc(), raised, 165_000)
 }
 
 // An output below the economic point costs less than the point: nothing to disallow.
 #[test]
 fn output_below_the_point(rt: HostRuntime) -> Result<(), Fail> {
-    let cheap = interval_with(interval_with(STEADY, 7, 3_300), 9, 1);
+    let cheap = RucRecord {
+        price: 3_300,
+        non_dispatchable: 1,
+        ..STEADY
+    };
     check_disallowed(&rt, rt.alloc(), cheap, 0)
 }
 
@@ -95,11 +103,20 @@ fn negative_prices_and_no_output(rt: HostRuntime) -> Result<(), Fail> {
         committed: curve_of(heap, &[(200, -50)])?,
         current: curve_of(heap, &[(100, -50), (100, 20)])?,
     };
-    let still = interval_with(interval_with(STEADY, 5, 0), 7, -50);
-    check_amounts(&rt, process.settle(&still), (0, 0, 5_000))?;
+    let still = RucRecord {
+        actual: 0,
+        price: -50,
+        ..STEADY
+    };
+    check_amounts(&rt, process.settle(&still), (0, 0, 5_000));
     // 150 tenths at -60: 100 x -50 + 50 x 20, and the excess over 100 tenths is 50 x 20, off its setpoint.
-    let running = interval_with(interval_with(STEADY, 4, 100), 7, -60);
-    check_amounts(&rt, process.settle(&running), (-4_000, -9_000, 1_000))
+    let running = RucRecord {
+        setpoint: 100,
+        price: -60,
+        ..STEADY
+    };
+    check_amounts(&rt, process.settle(&running), (-4_000, -9_000, 1_000));
+    Ok(())
 }
 
 // Price, commitment minimum, maximum, and the point: C runs nothing below 2,300, 100 tenths below 3,300, and then all 200.
@@ -118,21 +135,23 @@ const POINTS: [(i64, i64, i64, u64); 8] = [
 fn economic_points(rt: HostRuntime) -> Result<(), Fail> {
     let process = unit(rt.alloc())?;
     for (price, least, most, point) in POINTS {
-        let mut interval = STEADY;
-        interval.price = price;
-        interval.commitment_minimum = least;
-        interval.maximum = most;
+        let interval = RucRecord {
+            price,
+            commitment_minimum: least,
+            maximum: most,
+            ..STEADY
+        };
         assert_eq!(rt; process.economic_point(&interval).ok(), Some(point));
     }
-    assert!(rt;
-        process
-            .economic_point(&interval_with(STEADY, 3, 99))
-            .is_err()
-    );
-    assert!(rt;
-        process
-            .economic_point(&interval_with(STEADY, 5, 201))
-            .is_err()
-    );
+    let lowered = RucRecord {
+        maximum: 99,
+        ..STEADY
+    };
+    assert!(rt; process.economic_point(&lowered).is_err());
+    let beyond = RucRecord {
+        actual: 201,
+        ..STEADY
+    };
+    assert!(rt; process.economic_point(&beyond).is_err());
     Ok(())
 }

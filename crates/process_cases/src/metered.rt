@@ -4,7 +4,7 @@ ghost use Rattle.std.specs.Prelude.{◌≡◌};
 ghost use Rattle.process_cases.specs.Metering.{metered_figures, metered_meaning};
 ghost use Rattle.std.proofs.Common.{rules};
 
-use market::{Amounts, Figures, MarketProcess, ProcessRefusal};
+use market::{Amounts, MarketProcess, ProcessRefusal};
 
 // Ticks an interval that the meter counted as spent and as earned.
 #[derive(Clone, Copy)]
@@ -27,24 +27,19 @@ impl MarketProcess for Metered {
 
     const POT: u8 = 1;
 
-    ghost figures = { metered_figures };
+    ghost NUMBER = { metered_figures.number };
+
+    ghost LENGTH = { metered_figures.length };
+
+    ghost TAKES_OVER = { metered_figures.takes_over };
+
+    ghost POT = { metered_figures.pot };
 
     ghost meaning = { λ p x. metered_meaning x };
 
     ghost lawful = { Prim.search rules };
 
     ghost bounded = { Prim.search rules };
-
-    fn figures() -> Figures
-        ensures { result ≡ metered_figures }
-    {
-        Figures {
-            number: Self::NUMBER,
-            length: Self::LENGTH,
-            takes_over: Self::TAKES_OVER,
-            pot: Self::POT,
-        }
-    }
 
     fn settle(&self, step: &MeteredRecord) -> Result<Amounts, ProcessRefusal>
         ensures { result ≡ metered_meaning step.now }

@@ -1,7 +1,7 @@
 // What the tests of processes share: curves, records with one field set, and refusals compared.
 
 use market::{Amounts, DayAheadRecord, ProcessRefusal, RucRecord};
-use offers::{Adder, Block, BlockCurve, Layer};
+use offers::{Adder, Block, BlockCurve, Layer, Refusal};
 use std::alloc::Global;
 use std::process::Abort;
 use std::test::Fail;
@@ -9,11 +9,8 @@ use std::test::Fail;
 // The curve of blocks given as width and price.
 pub(super) fn curve_of(heap: Global, pairs: &[(u64, i64)]) -> Result<BlockCurve, Fail> {
     let mut blocks = Vec::new(heap);
-    for (width, price) in pairs {
-        blocks.push(Block {
-            width: *width,
-            price: *price,
-        })?;
+    for &(width, price) in pairs {
+        blocks.push(Block { width, price })?;
     }
     Ok(BlockCurve::new(blocks)?)
 }
@@ -56,8 +53,7 @@ pub(super) const IDLE_INTERVAL: RucRecord = RucRecord {
 };
 
 // A record with the field of a number set; fields count from 1.
-pub(super) fn hour_with(hour: DayAheadRecord, field: u64, value: i64) -> DayAheadRecord {
-    let mut hour = hour;
+pub(super) fn hour_with(mut hour: DayAheadRecord, field: u64, value: i64) -> DayAheadRecord {
     match field {
         1 => hour.cleared = value,
         2 => hour.price = value,
@@ -68,8 +64,7 @@ pub(super) fn hour_with(hour: DayAheadRecord, field: u64, value: i64) -> DayAhea
     hour
 }
 
-pub(super) fn interval_with(interval: RucRecord, field: u64, value: i64) -> RucRecord {
-    let mut interval = interval;
+pub(super) fn interval_with(mut interval: RucRecord, field: u64, value: i64) -> RucRecord {
     match field {
         1 => interval.commitment_minimum = value,
         2 => interval.minimum_now = value,
@@ -88,47 +83,33 @@ pub(super) fn interval_with(interval: RucRecord, field: u64, value: i64) -> RucR
 
 fn check_refused(
     rt: &impl Abort,
-    told: Result<Amounts, ProcessRefusal>,
+    answer: Result<Amounts, ProcessRefusal>,
     number: u8,
     layer: Layer,
     place: u64,
-) -> Result<(), Fail> {
-    let Err(refusal) = told else {
-        return Err(Fail::new("taken"));
-    };
-    assert_eq!(rt; refusal.number(), number);
-    assert_eq!(rt; refusal.layer(), layer);
-    assert_eq!(rt; refusal.place(), place);
-    Ok(())
+) {
+    let told = answer.err().map(|refusal| (refusal.number(), refusal.layer(), refusal.place()));
+    assert_eq!(rt; told, Some((number, layer, place)));
 }
 
-pub(super) fn check_field(
-    rt: &impl Abort,
-    told: Result<Amounts, ProcessRefusal>,
-    field: u64,
-) -> Result<(), Fail> {
-    check_refused(rt, told, 14, Layer::Process, field)
+pub(super) fn check_field(rt: &impl Abort, answer: Result<Amounts, ProcessRefusal>, field: u64) {
+    check_refused(rt, answer, 14, Layer::Process, field);
 }
 
-pub(super) fn check_tenth(
-    rt: &impl Abort,
-    told: Result<Amounts, ProcessRefusal>,
-    tenth: u64,
-) -> Result<(), Fail> {
-    check_refused(rt, told, 13, Layer::Curve, tenth)
+pub(super) fn check_tenth(rt: &impl Abort, answer: Result<Amounts, ProcessRefusal>, tenth: u64) {
+    check_refused(rt, answer, 13, Layer::Curve, tenth);
 }
 
 // Cost, revenue and disallowed cost of a taken record.
 pub(super) fn check_amounts(
     rt: &impl Abort,
-    told: Result<Amounts, ProcessRefusal>,
-    amounts: (i64, i64, i64),
-) -> Result<(), Fail> {
-    let Ok(found) = told else {
-        return Err(Fail::new("refused"));
+    answer: Result<Amounts, ProcessRefusal>,
+    (cost, revenue, disallowed): (i64, i64, i64),
+) {
+    let amounts = Amounts {
+        cost,
+        revenue,
+        disallowed,
     };
-    assert_eq!(rt; found.cost, amounts.0);
-    assert_eq!(rt; found.revenue, amounts.1);
-    assert_eq!(rt; found.disallowed, amounts.2);
-    Ok(())
+    assert_eq!(rt; answer, Ok(amounts));
 }

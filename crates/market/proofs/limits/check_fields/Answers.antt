@@ -1,27 +1,29 @@
-use Rattle.std.proofs.Common.{get_or, pos, sym, refl, ap, ◌∙◌, arith, w64, SFits, rules}
-use Rattle.std.proofs.lemmas.Int.{to_z-of_z}
-use Rattle.market.specs.Curves.{checked}
-use Rattle.market.specs.Fields.{refusal-from, refusal-after}
+use Rattle.std.proofs.Common.{◌≡◌, ◌+◌, sym, ap, ◌∙◌, rules}
+use Rattle.std.proofs.lemmas.Iterator.{YieldsList-from_slice, YieldsList-from_zip}
+use Rattle.std.proofs.lemmas.Iterator.Adapters.{position_from-zero}
+use Rattle.std.proofs.lemmas.Iterator.Search.{position_from_yields_List}
+use Rattle.std.specs.List.{zip}
+use Rattle.std.specs.Option.{option_map}
+use Rattle.market.specs.declared.refusal.ProcessRefusal.TheVariants.{FieldOutsideLimits}
+use Rattle.market.specs.Fields.{none-refused}
+use Rattle.market.specs.Limits.{field_refusal}
+use Rattle.market.proofs.Fields.{is_outside, refusal-position}
+use Rattle.market.proofs.limits.check_fields.Given.{Over}
+use Rattle.market.proofs.limits.check_fields.Goals.{After-position-outside}
 use Rattle.market.proofs.limits.check_fields.Goals as goal
 
-pub loop-i-init : goal.loop-i-init
-loop-i-init c = refl
+-- what the chain found is the refusal
+found : (g : Over) (c : After-position-outside g) → field_refusal 1 c.args.limits c.args.fields ≡ option_map (λ k. FieldOutsideLimits (k + 1)) c.position-outside.result
+found g c =
+    let pairs = YieldsList-from_zip {s = c.zip.result} (YieldsList-from_slice c.args.limits cc) (YieldsList-from_slice c.args.fields cc) in
+    let place = position_from_yields_List is_outside c.position-outside.new.self _ c.position-outside.result c.position-outside.ensures.ran pairs (λ x b q k. search rules) in
+    refusal-position 0 c.args.limits c.args.fields ∙ sym (ap (option_map (λ k. FieldOutsideLimits (k + 1))) (place ∙ position_from-zero is_outside (zip c.args.limits c.args.fields)))
 
-pub returns-then-not-admits : goal.returns-then-not-admits
-returns-then-not-admits c =
-    let f : SFits w64 (get_or c.args.fields.now c.loop-i.i (pos 0)) = search rules in
-    let t = simp to_z-of_z at c.if-not-admits.ensures in
-    let e = refusal-from c.args.limits.now c.args.fields.now c.loop-i.i c.requires c.loop-i-test.true in
-    sym (ap checked (sym c.loop-i.invariant ∙ (rw (sym t) at e)))
+pub returns-in-Some-clause-value : goal.returns-in-Some-clause-value
+returns-in-Some-clause-value g c = rw (found g ((goal.at.returns-in-Some-clause-value g c).After-position-outside), c.in-Some.is)
 
-pub loop-i-preserved : goal.loop-i-preserved
-loop-i-preserved c =
-    let f : SFits w64 (get_or c.args.fields.now c.loop-i.i (pos 0)) = search rules in
-    let t = simp to_z-of_z at c.if-not-admits.ensures in
-    let e = refusal-from c.args.limits.now c.args.fields.now c.loop-i.i c.requires c.loop-i-test.true in
-    sym (rw (sym t) at e) ∙ c.loop-i.invariant
+pub returns-in-None-clause-value : goal.returns-in-None-clause-value
+returns-in-None-clause-value g c = rw (found g ((goal.at.returns-in-None-clause-value g c).After-position-outside), c.in-None.is)
 
-pub returns : goal.returns
-returns c =
-    let e = refusal-after c.args.limits.now c.args.fields.now c.loop-i.i (omega arith) in
-    sym (ap checked (sym c.loop-i.invariant ∙ e))
+pub returns-in-None-clause-admitted : goal.returns-in-None-clause-admitted
+returns-in-None-clause-admitted g c = none-refused 1 c.args.limits c.args.fields (rw (found g ((goal.at.returns-in-None-clause-admitted g c).After-position-outside), c.in-None.is))

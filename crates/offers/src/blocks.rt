@@ -44,8 +44,8 @@ fn checked_top(blocks: &[Block]) -> Result<u64, CurveRefusal>
     }
     let mut top = 0;
     let mut floor = LOWEST_PRICE;
-    for (i, block) in blocks.iter().enumerate() {
-        if let Some(fault) = block_fault(i as u64 + 1, top, floor, *block) {
+    for (number, block) in (1..).zip(blocks) {
+        if let Some(fault) = block_fault(number, top, floor, *block) {
             return Err(fault);
         }
         top += block.width;

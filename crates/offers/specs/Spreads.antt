@@ -187,9 +187,10 @@ pub found_all : (tenth : ℕ) (bs : List Block) → 1 ≤ tenth → found tenth 
 unfolding found
 found_all tenth bs h = let t : leb 1 tenth ≡ true = grind (arith, nat_tests) in rw t
 
-pub found_none : (tenth left : ℕ) → 1 ≤ left → found tenth left [] ≡ Err (NoSuchTenth tenth)
+pub found_none : (tenth left : ℕ) (bs : List Block) → 1 ≤ left → length bs ≡ 0 → found tenth left bs ≡ Err (NoSuchTenth tenth)
 unfolding found
-found_none tenth left h = let t : leb left 0 ≡ false = grind (arith, nat_tests) in rw t
+found_none tenth left [] h none = let t : leb left 0 ≡ false = grind (arith, nat_tests) in rw t
+found_none tenth left (b ∷ bs) h none = absurd (omega arith)
 
 pub found_here : (tenth left : ℕ) (b : Block) (bs : List Block) → 1 ≤ left → left ≤ b.width → found tenth left (b ∷ bs) ≡ Ok b.price
 unfolding found
@@ -201,9 +202,9 @@ found_here tenth left b bs h k =
     let e : get_or (spread (b ∷ bs)) (left - 1) (pos 0) ≡ b.price = get_or_append_left (replicate b.width b.price) (spread bs) (pos 0) (left - 1) (omega arith) ∙ get_or-replicate b.width (left - 1) b.price (pos 0) i in
     rw (t, e)
 
-pub found-next : (tenth left : ℕ) (b : Block) (bs : List Block) → b.width < left → found tenth left (b ∷ bs) ≡ found tenth (left - b.width) bs
+pub found_next : (tenth left : ℕ) (b : Block) (bs : List Block) → b.width < left → found tenth left (b ∷ bs) ≡ found tenth (left - b.width) bs
 unfolding found
-found-next tenth left b bs h =
+found_next tenth left b bs h =
     let l = length-spread b bs in
     let t : leb left (length (spread (b ∷ bs))) ≡ leb (left - b.width) (length (spread bs)) = grind (arith, nat_tests) in
     let w = length-replicate b.width b.price in
@@ -221,13 +222,13 @@ pub spent_all : (tenths : ℕ) (bs : List Block) → spent tenths tenths (pos 0)
 unfolding spent
 spent_all tenths bs = let e : pos 0 +ℤ total (take tenths (spread bs)) ≡ total (take tenths (spread bs)) = omega (arith, ints) in rw e
 
-pub spent-over : (tenths left : ℕ) (cost : ℤ) → 0 < left → spent tenths left cost [] ≡ Err (NoSuchTenth tenths)
+pub spent_over : (tenths left : ℕ) (cost : ℤ) → 0 < left → spent tenths left cost [] ≡ Err (NoSuchTenth tenths)
 unfolding spent
-spent-over tenths left cost h = let t : leb left 0 ≡ false = grind (arith, nat_tests) in rw t
+spent_over tenths left cost h = let t : leb left 0 ≡ false = grind (arith, nat_tests) in rw t
 
-pub spent-done : (tenths left : ℕ) (cost : ℤ) → left ≡ 0 → spent tenths left cost [] ≡ Ok cost
+pub spent_done : (tenths left : ℕ) (cost : ℤ) → left ≡ 0 → spent tenths left cost [] ≡ Ok cost
 unfolding spent
-spent-done tenths left cost h = let e : cost +ℤ pos 0 ≡ cost = omega (arith, ints) in rw (h, e)
+spent_done tenths left cost h = let e : cost +ℤ pos 0 ≡ cost = omega (arith, ints) in rw (h, e)
 
 total-front : (k n : ℕ) (p : ℤ) (ps : List ℤ) → total (take k (replicate n p ++ ps)) ≡ pos (min k n) *ℤ p +ℤ total (take (k - min k n) ps)
 total-front k zero p ps =
@@ -246,9 +247,9 @@ total-front (suc k) (suc n) p ps =
     let e = total-front k n p ps in
     rw (m, s, t) (omega (arith, ints))
 
-pub spent-next : (tenths left : ℕ) (cost : ℤ) (b : Block) (bs : List Block) → spent tenths left cost (b ∷ bs) ≡ spent tenths (left - min left b.width) (cost +ℤ pos (min left b.width) *ℤ b.price) bs
+pub spent_next : (tenths left : ℕ) (cost : ℤ) (b : Block) (bs : List Block) → spent tenths left cost (b ∷ bs) ≡ spent tenths (left - min left b.width) (cost +ℤ pos (min left b.width) *ℤ b.price) bs
 unfolding spent
-spent-next tenths left cost b bs =
+spent_next tenths left cost b bs =
     let l = length-spread b bs in
     let t : leb left (length (spread (b ∷ bs))) ≡ leb (left - min left b.width) (length (spread bs)) = grind (arith, nat_tests) in
     let f : total (take left (spread (b ∷ bs))) ≡ pos (min left b.width) *ℤ b.price +ℤ total (take (left - min left b.width) (spread bs)) = total-front left b.width b.price (spread bs) in
@@ -266,13 +267,13 @@ taken-kept bs i h kept left taken t =
 pub kept-wide : (b : Block) → Kept b → Difference b.price
 kept-wide b k = (omega (arith, ints), omega (arith, ints))
 
-pub spent-more : (answer : Result ℤ CurveRefusal) (bs : List Block) (i : ℕ) → i < length bs → length bs ≤ 10 → AllByRecursion Kept bs → (tenths left : ℕ) (taken : Block) (z r : ℤ) → taken ≡ record { width = min left (block_at bs i).width; price = (block_at bs i).price } → r ≡ pos taken.width *ℤ taken.price → spent tenths left z (drop i bs) ≡ answer → Near (2000000000 * i) z → FitsSigned w64 (z +ℤ to_z w64 (of_z w64 r)) × (spent tenths (left - taken.width) (to_z w64 (of_z w64 (z +ℤ to_z w64 (of_z w64 r)))) (drop (i + 1) bs) ≡ answer) × Near (2000000000 * (i + 1)) (to_z w64 (of_z w64 (z +ℤ to_z w64 (of_z w64 r))))
-spent-more answer bs i h few kept tenths left taken z r t e same near =
+pub spent_more : (answer : Result ℤ CurveRefusal) (bs : List Block) (i : ℕ) → i < length bs → length bs ≤ 10 → AllByRecursion Kept bs → (tenths left : ℕ) (taken : Block) (z r : ℤ) → taken ≡ record { width = min left (block_at bs i).width; price = (block_at bs i).price } → r ≡ pos taken.width *ℤ taken.price → spent tenths left z (drop i bs) ≡ answer → Near (2000000000 * i) z → FitsSigned w64 (z +ℤ to_z w64 (of_z w64 r)) × (spent tenths (left - taken.width) (to_z w64 (of_z w64 (z +ℤ to_z w64 (of_z w64 r)))) (drop (i + 1) bs) ≡ answer) × Near (2000000000 * (i + 1)) (to_z w64 (of_z w64 (z +ℤ to_z w64 (of_z w64 r))))
+spent_more answer bs i h few kept tenths left taken z r t e same near =
     let b = block_at bs i in
     let k : Kept taken = taken-kept bs i h kept left taken t in
     let small : Amount r = subst Amount (sym e) (product-amount taken.width taken.price k.0 (kept-wide taken k)) in
     let back : to_z w64 (of_z w64 (z +ℤ to_z w64 (of_z w64 r))) ≡ z +ℤ r = omega (arith, ints) in
-    let step : spent tenths (left - min left b.width) (z +ℤ pos (min left b.width) *ℤ b.price) (drop (i + 1) bs) ≡ answer = sym (spent-next tenths left z b (drop (i + 1) bs)) ∙ sym (at_drop_more (spent tenths left z) bs i (block_at [] 0) h) ∙ same in (
+    let step : spent tenths (left - min left b.width) (z +ℤ pos (min left b.width) *ℤ b.price) (drop (i + 1) bs) ≡ answer = sym (spent_next tenths left z b (drop (i + 1) bs)) ∙ sym (at_drop_more (spent tenths left z) bs i (block_at [] 0) h) ∙ same in (
       near_fits 100000000000 (z +ℤ to_z w64 (of_z w64 r)) (omega arith) (omega (arith, ints), omega (arith, ints)),
       ap (λ x. spent tenths (left - taken.width) x (drop (i + 1) bs)) (back ∙ ap (λ x. z +ℤ x) e) ∙ ap (λ x. spent tenths (left - x.width) (z +ℤ pos x.width *ℤ x.price) (drop (i + 1) bs)) t ∙ step,
       (omega (arith, ints), omega (arith, ints)),

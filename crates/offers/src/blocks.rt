@@ -61,6 +61,7 @@ fn reaches(block: Block, tenth: u64) -> bool
     tenth <= block.width
 }
 
+#[tactic(auto, using(crate::specs::Spreads::found_all, crate::specs::Spreads::found_none, crate::specs::Spreads::found_here, crate::specs::Spreads::found_next))]
 fn price_of(blocks: &[Block], tenth: u64) -> Result<i64, CurveRefusal>
     ensures { result ≡ price_of (spread blocks.now) tenth }
 {
@@ -68,8 +69,8 @@ fn price_of(blocks: &[Block], tenth: u64) -> Result<i64, CurveRefusal>
         return Err(CurveRefusal::NoSuchTenth(0));
     }
     let mut left = tenth;
-    for block in blocks {
-        if reaches(*block, left) {
+    for block in blocks.iter().copied() {
+        if reaches(block, left) {
             return Ok(block.price);
         }
         left -= block.width;

@@ -1,13 +1,11 @@
 -- The ends of blocks, and how wide the blocks of a curve are.
-use Rattle.std.proofs.Common.{◌≡◌, ℕ, ◌+◌, ◌<◌, ◌≤◌, Bool, true, false, cond, ◌&&◌, leb, List, [], ◌∷◌, ◌++◌, length, get_or, drop, ℤ, is_some, Some, None, Option, sym, refl, ap, ◌∙◌, arith}
-use Rattle.std.proofs.lemmas.List.{append_assoc, append-nil, at_drop_more, at_drop_all}
+use Rattle.std.proofs.Common.{◌≡◌, ℕ, ◌+◌, ◌≤◌, Bool, true, false, cond, ◌&&◌, leb, List, [], ◌∷◌, length, ℤ, is_some, Some, None, Option, refl, arith}
 use Rattle.std.proofs.lemmas.Bool.Decides.{nat_tests}
 use Rattle.offers.specs.declared.block.Block.{Block}
 use Rattle.offers.specs.declared.refusal.CurveRefusal.{CurveRefusal}
 use Rattle.offers.specs.Answers.{or_else}
 use Rattle.offers.specs.Blocks.{fault, fault_from, block_fault}
 use Rattle.offers.specs.Prices.{lowest_price}
-use Rattle.quotes.specs.Quotes.{ends_from}
 
 abbrev pub width_of_all : List Block → ℕ
 width_of_all [] = 0
@@ -32,17 +30,3 @@ bool-none false o r e = absurd (let z : ◌≡◌ {A = ℕ} 0 1 = cc in omega ar
 
 pub narrow : (bs : List Block) → is_some (fault bs) ≡ false → width_of_all bs ≤ 10000
 narrow bs e = omega (arith, narrow-from 1 0 lowest_price bs (omega arith) (bool-none (leb 1 (length bs) && leb (length bs) 10) _ _ e))
-
--- The loop that finds the ends.
-pub one-wide : (bs : List Block) (i : ℕ) (d : Block) → i < length bs → width_of_all (drop i bs) ≡ (get_or bs i d).width + width_of_all (drop (i + 1) bs)
-one-wide bs i d inside = at_drop_more width_of_all bs i d inside
-
-pub one_end : (bs : List Block) (i end : ℕ) (d : Block) (ends more due : List ℕ) → i < length bs → due ≡ ends ++ ends_from end (drop i bs) → more ≡ ends ++ (end + (get_or bs i d).width) ∷ []
-    → due ≡ more ++ ends_from (end + (get_or bs i d).width) (drop (i + 1) bs)
-one_end bs i end d ends more due inside left pushed =
-    let step : ends_from end (drop i bs) ≡ (end + (get_or bs i d).width) ∷ ends_from (end + (get_or bs i d).width) (drop (i + 1) bs) = at_drop_more (ends_from end) bs i d inside in
-    left ∙ ap (λ rest. ends ++ rest) step ∙ sym (append_assoc ends ((end + (get_or bs i d).width) ∷ []) (ends_from (end + (get_or bs i d).width) (drop (i + 1) bs)))
-    ∙ ap (λ front. front ++ ends_from (end + (get_or bs i d).width) (drop (i + 1) bs)) (sym pushed)
-
-pub all-ends : (bs : List Block) (i end : ℕ) (ends due : List ℕ) → length bs ≤ i → due ≡ ends ++ ends_from end (drop i bs) → due ≡ ends
-all-ends bs i end ends due past left = left ∙ ap (λ rest. ends ++ rest) (at_drop_all (ends_from end) bs i past) ∙ append-nil ends

@@ -50,8 +50,8 @@ fn points_at<C: OfferCurve>(
     ensures { Answers vec_items result (as_refused (points_at (C.prices curve.now) tenths.now)) }
 {
     let mut points = Vec::new(heap);
-    for tenth in tenths {
-        points.push(point_at(curve, *tenth)?)?;
+    for tenth in tenths.iter().copied() {
+        points.push(point_at(curve, tenth)?)?;
     }
     Ok(points)
 }
@@ -97,12 +97,13 @@ pub(crate) fn quote_at<C: OfferCurve>(
 }
 
 // The last tenth of each block.
+#[tactic(auto, using(crate::proofs::Ends::narrow))]
 fn block_ends(heap: Global, curve: &BlockCurve) -> Result<Vec<u64>, OfferFault>
     ensures { Answers vec_items result (Ok (ends_from 0 curve.now.blocks.items)) }
 {
     let mut ends = Vec::new(heap);
     let mut end = 0;
-    for block in curve.blocks() {
+    for block in curve.blocks().iter().copied() {
         end += block.width;
         ends.push(end)?;
     }

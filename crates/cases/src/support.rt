@@ -1,4 +1,5 @@
 // What the tests share: lines, curves made of pairs, and answers compared with tables.
+// Tests of processes have the like in their own crate: what takes `Abort` may stand in no library.
 
 use offers::{Block, BlockCurve, CurveRefusal, Layer, OfferCurve, Refusal};
 use quotes::{LineFault, OfferFault};

@@ -6,7 +6,8 @@ ghost use Rattle.market.specs.Refusals.{process_told, sentence};
 use offers::{Layer, Refusal};
 use std::fmt;
 
-// Why a record was not settled. Fields count from 1; the tenth is the one that was asked of a curve.
+// Why a record was not settled. Fields go by their numbers, from 1, as the place of a refusal does; the tenth is the one that
+// was asked of a curve.
 #[derive(Clone, Copy, Debug, PartialEq, Eq)]
 pub enum ProcessRefusal {
     FieldOutsideLimits(u64),

@@ -14,6 +14,8 @@ use super::ruc_record::{LimitedInterval, RucCosts, RucRecord};
 use offers::OfferCurve;
 
 // The process of a unit by the curve of the commitment decision and the current curve, which may differ in make.
+// Clauses name the prices of both each time: seen as two lists alone, as a model would have it, the process would have lost
+// that they are lawful, which its law of bounds needs.
 #[derive(Drop)]
 pub struct Ruc<C, N> {
     pub committed: C,

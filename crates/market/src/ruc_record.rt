@@ -13,7 +13,8 @@ use super::parts::{CostParts, RevenueParts};
 use super::refusal::ProcessRefusal;
 
 // One interval of a unit. Powers and the tolerance are in tenths, the price in cents per MWh, the no-load offer in cents an
-// hour, other revenue and reserve cost in ticks; non_dispatchable is 0 or 1. Any numbers may stand in it.
+// hour, other revenue and reserve cost in ticks. Any numbers may stand in it, so the mark of a non-dispatchable unit is one
+// too, 0 or 1: another is refused by its field.
 #[derive(Clone, Copy, Debug, PartialEq, Eq)]
 pub struct RucRecord {
     pub commitment_minimum: i64,

@@ -1,4 +1,5 @@
 // What the tests of processes share: curves, records with one field set, and refusals compared.
+// Tests of curves have the like in their own crate: what takes `Abort` may stand in no library.
 
 use market::{Amounts, DayAheadRecord, ProcessRefusal, RucRecord};
 use offers::{Adder, Block, BlockCurve, Layer, Refusal};
@@ -52,7 +53,8 @@ pub(super) const IDLE_INTERVAL: RucRecord = RucRecord {
     reserve_cost: 0,
 };
 
-// A record with the field of a number set; fields count from 1.
+// A record with the field of a number set; fields count from 1, as in the place of a refusal. The numbers stand here once
+// more, apart from the program's own, which is on trial.
 pub(super) fn hour_with(mut hour: DayAheadRecord, field: u64, value: i64) -> DayAheadRecord {
     match field {
         1 => hour.cleared = value,

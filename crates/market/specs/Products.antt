@@ -16,6 +16,6 @@ sold_within (pos a) (negsuc b) h k =
     (omega (arith, ints), omega (arith, ints))
 sold_within (negsuc a) b h k = let l = h.0 in (omega (arith, ints), omega (arith, ints))
 
-pub within-fits : (z : ℤ) → Within 1000000000 z → FitsSigned w64 z
+pub within-fits : (z : ℤ) → Within 2000000000 z → FitsSigned w64 z
 within-fits (pos n) h = record { sfits = omega (arith, ints) }
 within-fits (negsuc n) h = record { sfits = omega (arith, ints) }

@@ -1,7 +1,7 @@
 // Curves of blocks, executed: which are refused and where, and what they answer.
 
 use super::support::*;
-use offers::CurveRefusal;
+use offers::{CurveRefusal, Reported};
 use std::test::Fail;
 
 #[test]
@@ -156,5 +156,18 @@ fn sentences(rt: HostRuntime) -> Result<(), Fail> {
         let said = format!(in heap; "{refusal}")?;
         assert!(rt; said.as_str() == words);
     }
+    Ok(())
+}
+
+#[test]
+fn reported(rt: HostRuntime) -> Result<(), Fail> {
+    let heap = rt.alloc();
+    let falls = Reported(CurveRefusal::PriceFalls(2));
+    let none = Reported(CurveRefusal::BlockCount);
+    let said = format!(in heap; "{falls}; {none}")?;
+    assert!(rt;
+        said.as_str()
+            == "refused 12 curve 2: the price of block 2 is below that of the block before; refused 10 curve 0: an offer has 1 to 10 blocks (place 0)"
+    );
     Ok(())
 }

@@ -67,6 +67,7 @@ pub(super) fn check_refused<T: Drop>(
     Ok(())
 }
 
+// A function for each question, so that a table need not spell the question.
 pub(super) fn check_prices<C: OfferCurve>(
     rt: &impl Abort,
     curve: &C,

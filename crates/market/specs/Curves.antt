@@ -1,5 +1,5 @@
 -- What a process asks of a curve, by its list of prices.
-use Rattle.std.specs.Prelude.{ℕ, cond, List, take, ℤ, Some, None, Option, Result, nat_le}
+use Rattle.std.specs.Prelude.{◌≡◌, MatchResult, ℕ, cond, List, take, ℤ, Some, None, Option, Result, nat_le}
 use Rattle.offers.specs.Answers.{unless}
 use Rattle.offers.specs.Prices.{top_of, total}
 use Rattle.market.specs.declared.refusal.ProcessRefusal.{ProcessRefusal}
@@ -18,3 +18,7 @@ tenth_refusal ps tenths = cond (nat_le tenths (top_of ps)) None (Some (NoSuchTen
 -- What a check answers: nothing, or its refusal.
 abbrev pub checked : Option ProcessRefusal → Result (Unit {0}) ProcessRefusal
 checked refusal = unless refusal tt
+
+-- A record that was checked is passed on as it is, or it is refused.
+abbrev pub PassedOn : {L X : Type 0} → Result L ProcessRefusal → (L → X) → Option ProcessRefusal → X → Type 0
+PassedOn result means refusal x = MatchResult result (λ l. (means l ≡ x) × (refusal ≡ None)) (λ r. refusal ≡ Some r)

@@ -9,7 +9,8 @@ pub struct Amounts {
 }
 
 // The fixed figures of a process: its number, how many intervals of five minutes a step of it lasts, whether it goes on
-// counting for a start that another process counted, and the pot of its payments for system-wide reasons.
+// counting for a start that another process counted, and the pot of its payments for system-wide reasons. Number and pot are
+// those that clients know.
 #[derive(Clone, Copy, Debug, PartialEq, Eq)]
 pub struct Figures {
     pub number: u8,

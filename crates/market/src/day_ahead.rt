@@ -1,12 +1,13 @@
 // The Day-Ahead Market: an hour cleared the day before.
 
-ghost use Rattle.std.specs.Prelude.{◌≡◌, pos, ◌*ℤ◌, ◌↔◌, IsOk, MatchResult, unsigned_abs};
+ghost use Rattle.std.specs.Prelude.{◌≡◌, pos, ◌*ℤ◌, ◌↔◌, IsOk, unsigned_abs};
 ghost use Rattle.std.proofs.Common.{rules};
 ghost use Rattle.market.specs.Amounts.{interval_cost, interval_revenue};
 ghost use Rattle.market.specs.DayAhead.{day_ahead_figures, day_ahead_fields, day_ahead_limits, day_ahead_field_refusal, day_ahead_refusal, hour_amounts, day_ahead_meaning, DayAheadTaken};
 ghost use Rattle.market.specs.Hours.{hour-lawful};
 ghost use Rattle.market.specs.Laws.{Within};
 ghost use Rattle.market.specs.Limits.{AllAdmitted};
+ghost use Rattle.market.specs.Curves.{PassedOn};
 
 use super::amounts::Amounts;
 use super::asking::{check_tenth, cost_of};
@@ -43,7 +44,7 @@ impl DayAheadRecord {
 
     // The record as one whose fields are within their limits, or the refusal of the first that is not.
     fn limited(&self) -> Result<LimitedHour, ProcessRefusal>
-        ensures { MatchResult result (λ limited. (limited.fields ≡ self.now) × (day_ahead_field_refusal self.now ≡ None)) (λ refusal. day_ahead_field_refusal self.now ≡ Some refusal) }
+        ensures { PassedOn result (λ limited. limited.fields) (day_ahead_field_refusal self.now) self.now }
     {
         check_fields(self.fields(), DAY_AHEAD_LIMITS)?;
         Ok(LimitedHour { fields: *self })
@@ -123,7 +124,7 @@ impl<C: OfferCurve> DayAhead<C> {
     // Fields first; then the power cleared has to lie on the curve.
     #[tactic(auto, unfolding(crate::specs::DayAhead::day_ahead_refusal))]
     fn check(&self, step: &DayAheadRecord) -> Result<LimitedHour, ProcessRefusal>
-        ensures { MatchResult result (λ limited. (limited.fields ≡ step.now) × (day_ahead_refusal (C.OfferCurve.prices self.now.curve) step.now ≡ None)) (λ refusal. day_ahead_refusal (C.OfferCurve.prices self.now.curve) step.now ≡ Some refusal) }
+        ensures { PassedOn result (λ limited. limited.fields) (day_ahead_refusal (C.OfferCurve.prices self.now.curve) step.now) step.now }
     {
         let hour = step.limited()?;
         check_tenth(&self.curve, hour.tenths())?;

@@ -77,7 +77,8 @@ impl Limits {
     }
 }
 
-// The first field outside its row is refused.
+// The first field outside its row is refused. Each record makes its own arrays for it: over a trait of records with N fields
+// the check would ask of every N that the arrays fit memory.
 pub(crate) fn check_fields<const N: usize>(
     fields: [i64; N],
     limits: [Limits; N],

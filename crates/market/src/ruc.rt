@@ -1,10 +1,11 @@
 // Reliability Unit Commitment (RUC): an interval of a unit that was committed after the Day-Ahead Market.
 
-ghost use Rattle.std.specs.Prelude.{◌≡◌, ◌↔◌, IsOk, MatchResult};
+ghost use Rattle.std.specs.Prelude.{◌≡◌, ◌↔◌, IsOk};
 ghost use Rattle.std.proofs.Common.{rules};
 ghost use Rattle.offers.specs.Answers.{unless};
 ghost use Rattle.market.specs.Intervals.{interval-lawful};
 ghost use Rattle.market.specs.Reliability.{ruc_figures, ruc_refusal, energy_of, energy_cost, economic_point, excess_of, excess_cost, ruc_meaning, RucTaken};
+ghost use Rattle.market.specs.Curves.{PassedOn};
 
 use super::amounts::Amounts;
 use super::asking::{check_tenth, cost_of};
@@ -14,8 +15,8 @@ use super::ruc_record::{LimitedInterval, RucCosts, RucRecord};
 use offers::OfferCurve;
 
 // The process of a unit by the curve of the commitment decision and the current curve, which may differ in make.
-// Clauses name the prices of both each time: seen as two lists alone, as a model would have it, the process would have lost
-// that they are lawful, which its law of bounds needs.
+// Clauses name the prices of both each time: a model that shows two lists loses that they are lawful, as the law of bounds
+// needs them.
 #[derive(Drop)]
 pub struct Ruc<C, N> {
     pub committed: C,
@@ -26,7 +27,7 @@ impl<C: OfferCurve, N: OfferCurve> Ruc<C, N> {
     // Fields first; then the commitment minimum, the maximum and the actual output have to lie on the curves.
     #[tactic(auto, unfolding(crate::specs::Reliability::ruc_refusal))]
     fn check(&self, step: &RucRecord) -> Result<LimitedInterval, ProcessRefusal>
-        ensures { MatchResult result (λ limited. (limited.fields ≡ step.now) × (ruc_refusal (C.OfferCurve.prices self.now.committed) (N.OfferCurve.prices self.now.current) step.now ≡ None)) (λ refusal. ruc_refusal (C.OfferCurve.prices self.now.committed) (N.OfferCurve.prices self.now.current) step.now ≡ Some refusal) }
+        ensures { PassedOn result (λ limited. limited.fields) (ruc_refusal (C.OfferCurve.prices self.now.committed) (N.OfferCurve.prices self.now.current) step.now) step.now }
     {
         let interval = step.limited()?;
         check_tenth(&self.committed, interval.least())?;

@@ -1,11 +1,12 @@
 // The record of a RUC interval: its fields, and what they say of its costs.
 
-ghost use Rattle.std.specs.Prelude.{◌≡◌, pos, if◌then◌else◌, MatchResult, unsigned_abs};
+ghost use Rattle.std.specs.Prelude.{◌≡◌, pos, if◌then◌else◌, unsigned_abs};
 ghost use Rattle.market.specs.Amounts.{interval_cost, interval_revenue};
 ghost use Rattle.market.specs.Laws.{Within};
 ghost use Rattle.market.specs.Limits.{AllAdmitted};
 ghost use Rattle.market.specs.Parts.{Priced};
 ghost use Rattle.market.specs.Reliability.{ruc_fields, ruc_limits, ruc_field_refusal, held_output, within_reach, off_setpoint, non_dispatchable, minimum_raised, disallowed_by, energy_of, excess_of, amounts_by};
+ghost use Rattle.market.specs.Curves.{PassedOn};
 
 use super::amounts::Amounts;
 use super::limits::{Limits, RUC_LIMITS, check_fields};
@@ -61,7 +62,7 @@ impl RucRecord {
 
     // The record as one whose fields are within their limits, or the refusal of the first that is not.
     pub(crate) fn limited(&self) -> Result<LimitedInterval, ProcessRefusal>
-        ensures { MatchResult result (λ limited. (limited.fields ≡ self.now) × (ruc_field_refusal self.now ≡ None)) (λ refusal. ruc_field_refusal self.now ≡ Some refusal) }
+        ensures { PassedOn result (λ limited. limited.fields) (ruc_field_refusal self.now) self.now }
     {
         check_fields(self.fields(), self.limits())?;
         Ok(LimitedInterval { fields: *self })

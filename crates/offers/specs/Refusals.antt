@@ -1,5 +1,5 @@
 -- What a refusal tells, and the refusals of the curve layer: number, layer and place of each.
-use Rattle.std.specs.Prelude.{ℕ, List, ◌++◌, codes, decimal}
+use Rattle.std.specs.Prelude.{ℕ, List, ◌++◌, Some, None, Option, codes, decimal}
 use Rattle.offers.specs.declared.refusal.Layer.{Layer}
 use Rattle.offers.specs.declared.refusal.Layer.TheVariants.{Curve, Process, Book}
 use Rattle.offers.specs.declared.refusal.CurveRefusal.{CurveRefusal}
@@ -39,3 +39,9 @@ sentence CapOutOfRange = codes "the limit of the cap is not from -100000 to 1000
 sentence AdderOutOfRange = codes "the adder takes a price out of -100000 to 100000 (place 0)"
 sentence (PriceFalls block) = codes "the price of block " ++ (decimal block ++ codes " is below that of the block before")
 sentence (NoSuchTenth tenth) = codes "the curve has no tenth " ++ decimal tenth
+
+-- A refusal is reported by its number, its layer and its place, and then its sentence, where that is known.
+abbrev pub reported : Told → Option (List ℕ) → Option (List ℕ)
+reported told None = None
+reported told (Some text) =
+    Some (codes "refused " ++ (decimal told.number ++ (codes " " ++ (layer_name told.layer ++ (codes " " ++ (decimal told.place ++ (codes ": " ++ text)))))))

@@ -27,7 +27,7 @@ fn keeps(price: i64, added: i64) -> bool
     LOWEST_PRICE <= sum && sum <= HIGHEST_PRICE
 }
 
-// Whether each of the prices stays in range.
+// Whether each of the prices stays in range when a number is added to it.
 fn keep_all(prices: &[i64], added: i64) -> bool
     ensures { result ≡ all_keep added prices.now }
 {
@@ -41,7 +41,7 @@ impl<C: OfferCurve + Drop> Adder<C> {
     {
         let first = lower.price(1)?;
         let last = lower.price(lower.top())?;
-        // Prices rise, so what the first and the last keep all between them keep.
+        // Prices never fall, so what holds at the first and at the last holds between them.
         if keep_all(&[first, last], added) {
             Ok(Adder { lower, added })
         } else {

@@ -125,7 +125,7 @@ impl BlockCurve {
     // highest top, a price out of range, and a price below the block before.
     pub fn new(blocks: Vec<Block>) -> Result<BlockCurve, CurveRefusal>
         ensures made { then result (λ c. c.blocks.items) ≡ blocks_asked blocks.items }
-        ensures taken { IsOk result ↔ (Offered blocks.items) }
+        ensures taken { IsOk result ↔ Offered blocks.items }
     {
         let top = checked_top(blocks.as_slice())?;
         Ok(BlockCurve { blocks, top })

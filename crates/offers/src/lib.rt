@@ -19,4 +19,4 @@ pub use capped::Cap;
 pub use curve::{HIGHEST_PRICE, HIGHEST_TOP, LOWEST_PRICE, OfferCurve};
 pub use over::Over;
 pub use priced::{price_of_blocks, price_over};
-pub use refusal::{CurveRefusal, Layer, Refusal};
+pub use refusal::{CurveRefusal, Layer, Refusal, Reported};

@@ -1,7 +1,7 @@
 // What every layer tells where it refuses, and the refusals of the curve layer.
 
 ghost use Rattle.std.specs.Prelude.{◌≡◌, Some};
-ghost use Rattle.offers.specs.Refusals.{Told, curve_told, sentence, layer_name};
+ghost use Rattle.offers.specs.Refusals.{Told, curve_told, sentence, layer_name, reported};
 
 use std::fmt;
 
@@ -118,5 +118,21 @@ impl fmt::Display for CurveRefusal {
             }
             CurveRefusal::NoSuchTenth(tenth) => write!(f, "the curve has no tenth {tenth}"),
         }
+    }
+}
+
+// A refusal as it is reported: its number, its layer and its place, and then its sentence.
+#[derive(Clone, Copy, Drop)]
+pub struct Reported<R>(pub R);
+
+impl<R: Refusal + fmt::Display> fmt::Display for Reported<R> {
+    ghost output = { λ r. reported (R.Refusal.told r.0) (R.Display.output r.0) };
+
+    fn fmt<W: fmt::Write>(&self, f: &mut fmt::Formatter<W>) -> fmt::Result {
+        let refusal = &self.0;
+        let number = refusal.number();
+        let layer = refusal.layer();
+        let place = refusal.place();
+        write!(f, "refused {number} {layer} {place}: {refusal}")
     }
 }

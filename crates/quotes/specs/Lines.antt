@@ -21,11 +21,11 @@ is_numeral ds = nat_lt 0 (length ds) && all_ascii_digits ds
 abbrev pub is_short : ℤ → Bool
 is_short n = int_le (negsuc 9223372036854775807) n && int_le n (pos 9223372036854775807)
 
--- A number is its digits, after a sign or none. Proofs open it only where a word is read, and stay small elsewhere.
+-- A number is its digits, after a sign or none.
 unfoldable pub number_of : List ℕ → Result ℤ LineFault
 number_of word = cond (is_numeral (without_leading_sign word) && is_short (signed_digits_value 10 word)) (Ok (signed_digits_value 10 word)) (Err NotANumber)
 
--- A width has no minus, and is a u64. It is opened as seldom.
+-- A width has no minus, and is a u64.
 unfoldable pub width_of : List ℕ → Result ℕ LineFault
 width_of word = cond (is_numeral (without_leading_plus word) && nat_lt (digits_value 10 (without_leading_plus word)) (2 ^ 64)) (Ok (digits_value 10 (without_leading_plus word))) (Err NotANumber)
 

@@ -11,7 +11,7 @@ use Rattle.quotes.specs.declared.piled.PiledCurve.TheVariants.{Bare, Cap, Adder,
 -- The prices of the blocks, changed by what lies on them.
 abbrev pub piled_prices : PiledCurve → List ℤ
 piled_prices (Bare c) = spread c.blocks.items
-piled_prices (Cap c) = capped c.0.limit (spread c.0.lower.blocks.items)
+piled_prices (Cap c) = capped c.limit (spread c.lower.blocks.items)
 piled_prices (Adder c) = raised c.added (spread c.lower.blocks.items)
 piled_prices (CapOverAdder c) = capped c.limit (raised c.lower.added (spread c.lower.lower.blocks.items))
 piled_prices (AdderOverCap c) = raised c.added (capped c.lower.0.limit (spread c.lower.0.lower.blocks.items))
@@ -19,8 +19,8 @@ piled_prices (AdderOverCap c) = raised c.added (capped c.lower.0.limit (spread c
 pub lawful-piled : (p : PiledCurve) → Lawful (piled_prices p)
 lawful-piled (Bare c) = lawful-spread c.blocks.items c.faultless
 lawful-piled (Cap c) =
-    let b = c.0.lower in
-    lawful-capped c.0.limit (spread b.blocks.items) c.0.within (lawful-spread b.blocks.items b.faultless)
+    let b = c.lower in
+    lawful-capped c.limit (spread b.blocks.items) c.within (lawful-spread b.blocks.items b.faultless)
 lawful-piled (Adder c) =
     let b = c.lower in
     lawful-raised c.added (spread b.blocks.items) (lawful-spread b.blocks.items b.faultless)

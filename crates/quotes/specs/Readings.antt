@@ -11,7 +11,7 @@ abbrev pub as_fault : {X F : Type 0} → (OfferFault → F) → Result X OfferFa
 as_fault of_offer (Ok x) = Ok x
 as_fault of_offer (Err fault) = Err (of_offer fault)
 
--- No item changes nothing.
+-- A line without an item changes nothing.
 abbrev pub any_taken : {I A F : Type 0} → (ℕ → I → A → Result A F) → ℕ → Option I → A → Result A F
 any_taken taking number None a = Ok a
 any_taken taking number (Some item) a = taking number item a

@@ -4,7 +4,7 @@ ghost use Rattle.std.specs.Prelude.{◌≡◌, Some};
 ghost use Rattle.quotes.specs.Sentences.{fault_sentence, line_sentence};
 ghost use Rattle.quotes.specs.declared.fault.OfferFault.TheVariants.{Memory, Refused as Denied};
 
-use offers::{CurveRefusal, Refusal};
+use offers::{CurveRefusal, Reported};
 use std::alloc::{AllocError, AllocFailed};
 use std::error::Error;
 use std::fmt;
@@ -71,12 +71,7 @@ impl fmt::Display for OfferFault {
     fn fmt<W: fmt::Write>(&self, f: &mut fmt::Formatter<W>) -> fmt::Result {
         match *self {
             OfferFault::Line { number, fault } => write!(f, "line {number}: {fault}"),
-            OfferFault::Refused(refusal) => {
-                let number = refusal.number();
-                let layer = refusal.layer();
-                let place = refusal.place();
-                write!(f, "refused {number} {layer} {place}: {refusal}")
-            }
+            OfferFault::Refused(refusal) => write!(f, "{}", Reported(refusal)),
             OfferFault::Memory => write!(f, "out of memory"),
         }
     }

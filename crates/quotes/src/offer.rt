@@ -28,6 +28,7 @@ pub struct Offer {
 }
 
 impl Pile {
+    // A function of a pile and of what is laid would have as many arms as these two.
     fn with_cap(self, limit: i64) -> Result<Pile, LineFault>
         ensures { result ≡ cap_laid limit self }
     {

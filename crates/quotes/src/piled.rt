@@ -14,7 +14,7 @@ use offers::{Adder, BlockCurve, Cap, CurveRefusal, OfferCurve};
 #[derive(Drop)]
 pub enum PiledCurve {
     Bare(BlockCurve),
-    Cap(CappedBlocks),
+    Cap(Cap<BlockCurve>),
     Adder(Adder<BlockCurve>),
     CapOverAdder(Cap<Adder<BlockCurve>>),
     AdderOverCap(Adder<CappedBlocks>),
@@ -27,7 +27,7 @@ impl PiledCurve {
     {
         match pile {
             Pile::Bare => Ok(PiledCurve::Bare(curve)),
-            Pile::Cap { limit } => Ok(PiledCurve::Cap(CappedBlocks::new(curve, limit)?)),
+            Pile::Cap { limit } => Ok(PiledCurve::Cap(Cap::new(curve, limit)?)),
             Pile::Adder { added } => Ok(PiledCurve::Adder(Adder::new(curve, added)?)),
             Pile::CapOverAdder { limit, added } => {
                 let raised = Adder::new(curve, added)?;

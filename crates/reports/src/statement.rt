@@ -1,20 +1,16 @@
 // The lines of a statement.
 
 use market::{Amounts, ProcessRefusal};
-use offers::Refusal;
+use offers::Reported;
 use statements::{RucStatement, Statement};
 use std::fmt;
 
-// The answers to the records that a unit asks about, in ticks.
+// The answers to the records that a unit asks about, in ticks. A refusal of a record is an answer too.
 #[derive(Clone, Copy)]
 pub struct StatementLines(pub Statement);
 
 #[derive(Clone, Copy)]
 struct AmountsLine(Amounts);
-
-// A refusal of a record is an answer too.
-#[derive(Clone, Copy)]
-struct RefusedLine(ProcessRefusal);
 
 #[derive(Clone, Copy)]
 struct HourLines(Result<Amounts, ProcessRefusal>);
@@ -36,22 +32,12 @@ impl fmt::Display for AmountsLine {
     }
 }
 
-impl fmt::Display for RefusedLine {
-    fn fmt<W: fmt::Write>(&self, f: &mut fmt::Formatter<W>) -> fmt::Result {
-        let RefusedLine(refusal) = *self;
-        let number = refusal.number();
-        let layer = refusal.layer();
-        let place = refusal.place();
-        writeln!(f, "  refused {number} {layer} {place}: {refusal}")
-    }
-}
-
 impl fmt::Display for HourLines {
     fn fmt<W: fmt::Write>(&self, f: &mut fmt::Formatter<W>) -> fmt::Result {
         writeln!(f, "Day-Ahead hour (ticks, 1/120 cent)")?;
         match self.0 {
             Ok(amounts) => write!(f, "{}", AmountsLine(amounts)),
-            Err(refusal) => write!(f, "{}", RefusedLine(refusal)),
+            Err(refusal) => writeln!(f, "  {}", Reported(refusal)),
         }
     }
 }
@@ -69,7 +55,7 @@ impl fmt::Display for IntervalLines {
                 write!(f, "{}", AmountsLine(amounts))?;
                 writeln!(f, "  economic operating point {economic_point} tenths")
             }
-            Err(refusal) => write!(f, "{}", RefusedLine(refusal)),
+            Err(refusal) => writeln!(f, "  {}", Reported(refusal)),
         }
     }
 }

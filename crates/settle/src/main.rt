@@ -12,18 +12,17 @@ fn settle(rt: &HostRuntime) -> anyhow::Result<()> {
     let lines: Vec<String> = rt.lines(heap).try_collect(heap)?;
     let offer = read_offer(heap, lines.as_slice())?;
     let quote = price_offer(heap, &offer)?;
-    print!(rt;
-        "{}",
-        OfferLines {
-            name: "offer",
-            offer: &offer
-        }
-    )?;
-    print!(rt; "{}", PointLines(&quote))?;
-    print!(rt; "{}", DispatchLines(&quote))?;
+    let offered = OfferLines {
+        name: "offer",
+        offer: &offer,
+    };
+    let priced = PointLines(&quote);
+    let run = DispatchLines(&quote);
+    print!(rt; "{offered}{priced}{run}")?;
     Ok(())
 }
 
+// In each program, since a library function has a contract with its whole outcome, which printing has not.
 fn main(rt: HostRuntime) -> ExitCode {
     match settle(&rt) {
         Ok(()) => ExitCode::SUCCESS,

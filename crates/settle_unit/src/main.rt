@@ -26,6 +26,7 @@ fn settle(rt: &HostRuntime) -> anyhow::Result<()> {
     Ok(())
 }
 
+// In each program, since a library function has a contract with its whole outcome, which printing has not.
 fn main(rt: HostRuntime) -> ExitCode {
     match settle(&rt) {
         Ok(()) => ExitCode::SUCCESS,

@@ -7,7 +7,7 @@ ghost use Rattle.offers.specs.Piles.{raised, adder_asked, all_keep};
 ghost use Rattle.offers.specs.PilesLemmas.{lawful-raised};
 
 use super::block::{Block, cost_of_all};
-use super::curve::{HIGHEST_PRICE, LOWEST_PRICE, OfferCurve};
+use super::curve::{OfferCurve, in_range};
 use super::over::Over;
 use super::refusal::CurveRefusal;
 
@@ -23,8 +23,7 @@ pub struct Adder<C: OfferCurve> {
 fn keeps(price: i64, added: i64) -> bool
     ensures { result ≡ in_range (price +ℤ added) }
 {
-    let sum = price.saturating_add(added);
-    LOWEST_PRICE <= sum && sum <= HIGHEST_PRICE
+    in_range(price.saturating_add(added))
 }
 
 // Whether each of the prices stays in range when a number is added to it.

@@ -10,7 +10,7 @@ ghost use Rattle.offers.specs.Spreads.{lawful-spread};
 
 use super::block::{Block, cost_of_all};
 use super::block_curve::BlockCurve;
-use super::curve::{HIGHEST_PRICE, HIGHEST_TOP, LOWEST_PRICE, OfferCurve};
+use super::curve::{HIGHEST_TOP, LOWEST_PRICE, OfferCurve, in_range};
 use super::refusal::CurveRefusal;
 
 const MOST_BLOCKS: usize = 10;
@@ -26,7 +26,7 @@ fn block_fault(number: u64, before: u64, floor: i64, block: Block) -> Option<Cur
     if block.width > HIGHEST_TOP - before {
         return Some(CurveRefusal::TooWide(number));
     }
-    if block.price < LOWEST_PRICE || block.price > HIGHEST_PRICE {
+    if !in_range(block.price) {
         return Some(CurveRefusal::PriceOutOfRange(number));
     }
     if block.price < floor {

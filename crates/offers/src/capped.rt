@@ -8,7 +8,7 @@ ghost use Rattle.offers.specs.Piles.{capped, cap_asked};
 ghost use Rattle.offers.specs.PilesLemmas.{lawful-capped};
 
 use super::block::{Block, cost_of_all};
-use super::curve::{HIGHEST_PRICE, LOWEST_PRICE, OfferCurve};
+use super::curve::{OfferCurve, in_range};
 use super::over::Over;
 use super::refusal::CurveRefusal;
 
@@ -31,7 +31,7 @@ impl<C: OfferCurve + Drop> Cap<C> {
     pub fn new(lower: C, limit: i64) -> Result<Cap<C>, CurveRefusal>
         ensures { then result (λ c. capped c.limit (C.prices c.lower)) ≡ cap_asked limit (C.prices lower) }
     {
-        if limit < LOWEST_PRICE || limit > HIGHEST_PRICE {
+        if !in_range(limit) {
             return Err(CurveRefusal::CapOutOfRange);
         }
         Ok(Cap { lower, limit })

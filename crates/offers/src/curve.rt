@@ -1,7 +1,7 @@
 // The interface of an offer curve.
 
 ghost use Rattle.std.specs.Prelude.{◌≡◌, List, ℤ};
-ghost use Rattle.offers.specs.Prices.{Lawful, top_of, price_of, cost_of, count_of};
+ghost use Rattle.offers.specs.Prices.{Lawful, in_range, top_of, price_of, cost_of, count_of};
 
 use super::refusal::CurveRefusal;
 
@@ -12,6 +12,13 @@ pub const HIGHEST_TOP: u64 = 10_000;
 pub const LOWEST_PRICE: i64 = -100_000;
 
 pub const HIGHEST_PRICE: i64 = 100_000;
+
+// Whether a number may be a price.
+pub(crate) fn in_range(price: i64) -> bool
+    ensures { result ≡ in_range price }
+{
+    (LOWEST_PRICE..=HIGHEST_PRICE).contains(&price)
+}
 
 // A curve means a list of prices, one for each tenth of a megawatt from 1 to its top. Each question is answered by that
 // list, and changes nothing.

@@ -1,5 +1,6 @@
 // What the tests share: lines, curves made of pairs, and answers compared with tables.
-// Tests of processes have the like in their own crate: what takes `Abort` may stand in no library.
+// Tests of processes have the like in their own crate: a library between the two would state contracts for a few lines, and may hold
+// nothing that takes `Abort`.
 
 use offers::{Block, BlockCurve, CurveRefusal, Layer, OfferCurve, Refusal};
 use quotes::{LineFault, OfferFault};
@@ -38,10 +39,7 @@ pub(super) fn curve_of(
 ) -> Result<Result<BlockCurve, CurveRefusal>, AllocError> {
     let blocks = pairs
         .iter()
-        .map(|(width, price)| Block {
-            width: *width,
-            price: *price,
-        })
+        .map(|&(width, price)| Block { width, price })
         .collect(heap)?;
     Ok(BlockCurve::new(blocks))
 }

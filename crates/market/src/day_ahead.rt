@@ -29,7 +29,8 @@ pub struct DayAheadRecord {
 }
 
 impl DayAheadRecord {
-    // The fields in the order of their numbers, from 1.
+    // The fields in the order of their numbers, from 1. Each record lists its own: over a trait with N fields the check asks of
+    // every N that the arrays fit memory.
     fn fields(&self) -> [i64; 5]
         ensures { result ≡ day_ahead_fields self.now }
     {
@@ -66,7 +67,8 @@ impl LimitedHour {
         self.fields.cleared.unsigned_abs()
     }
 
-    // What an interval of the hour costs, in ticks, where its energy costs so much.
+    // What an interval of the hour costs, in ticks, where its energy costs so much. Each record hands its own fields to the
+    // parts that both share, as below for revenue; a trait would only name the fields once more.
     fn cost(&self, energy: i64) -> i64
         requires { Within 1000000000 energy }
         ensures value { result ≡ interval_cost energy self.now.fields.no_load self.now.fields.reserve_cost }

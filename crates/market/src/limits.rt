@@ -77,8 +77,7 @@ impl Limits {
     }
 }
 
-// The first field outside its row is refused. Each record makes its own arrays for it: over a trait of records with N fields
-// the check would ask of every N that the arrays fit memory.
+// The first field outside its row is refused.
 pub(crate) fn check_fields<const N: usize>(
     fields: [i64; N],
     limits: [Limits; N],

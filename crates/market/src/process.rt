@@ -14,6 +14,7 @@ use super::refusal::ProcessRefusal;
 pub trait MarketProcess {
     type Record;
 
+    // Four constants and no struct of them: a process brings each figure under its own name.
     const NUMBER: u8;
 
     const LENGTH: u64;

@@ -15,8 +15,8 @@ use super::ruc_record::{LimitedInterval, RucCosts, RucRecord};
 use offers::OfferCurve;
 
 // The process of a unit by the curve of the commitment decision and the current curve, which may differ in make.
-// Clauses name the prices of both each time: a model that shows two lists loses that they are lawful, as the law of bounds
-// needs them.
+// Clauses name the prices of both each time: a model that shows two lists loses that they are lawful, which the law of bounds
+// needs.
 #[derive(Drop)]
 pub struct Ruc<C, N> {
     pub committed: C,

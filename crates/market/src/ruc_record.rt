@@ -32,7 +32,8 @@ pub struct RucRecord {
 }
 
 impl RucRecord {
-    // The fields in the order of their numbers, from 1.
+    // The fields in the order of their numbers, from 1. Each record lists its own: over a trait with N fields the check asks of
+    // every N that the arrays fit memory.
     fn fields(&self) -> [i64; 11]
         ensures { result ≡ ruc_fields self.now }
     {
@@ -117,7 +118,8 @@ impl LimitedInterval {
         tenths.max(self.least()).min(self.most())
     }
 
-    // What the interval costs, in ticks, where its energy costs so much.
+    // What the interval costs, in ticks, where its energy costs so much. Each record hands its own fields to the parts that
+    // both share, as below for revenue; a trait would only name the fields once more.
     fn cost(&self, energy: i64) -> i64
         requires { Within 3000000000 energy }
         ensures { result ≡ interval_cost energy self.now.fields.no_load self.now.fields.reserve_cost }

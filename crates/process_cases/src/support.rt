@@ -1,5 +1,6 @@
 // What the tests of processes share: curves, records with one field set, and refusals compared.
-// Tests of curves have the like in their own crate: what takes `Abort` may stand in no library.
+// Tests of curves have the like in their own crate: a library between the two would state contracts for a few lines, and may hold
+// nothing that takes `Abort`.
 
 use market::{Amounts, DayAheadRecord, ProcessRefusal, RucRecord};
 use offers::{Adder, Block, BlockCurve, Layer, Refusal};
@@ -9,10 +10,10 @@ use std::test::Fail;
 
 // The curve of blocks given as width and price.
 pub(super) fn curve_of(heap: Global, pairs: &[(u64, i64)]) -> Result<BlockCurve, Fail> {
-    let mut blocks = Vec::new(heap);
-    for &(width, price) in pairs {
-        blocks.push(Block { width, price })?;
-    }
+    let blocks = pairs
+        .iter()
+        .map(|&(width, price)| Block { width, price })
+        .collect(heap)?;
     Ok(BlockCurve::new(blocks)?)
 }
 

@@ -35,7 +35,8 @@ fn words(heap: Global, text: &str) -> Result<Vec<&str>, AllocError>
         .collect(heap)
 }
 
-// A number may have a minus and a width has none, so each follows a definition of its own.
+// A number may have a minus and a width has none, so each follows a definition of its own; one function of both would need a
+// trait with two impls to choose it.
 pub(crate) fn number(word: &str) -> Result<i64, LineFault>
     ensures { result ≡ number_of word.now }
 {

@@ -10,7 +10,7 @@ use super::capped_blocks::CappedBlocks;
 use super::offer::Pile;
 use offers::{Adder, BlockCurve, Cap, CurveRefusal, OfferCurve};
 
-// A curve of blocks with what lies on it.
+// A curve of blocks with what lies on it. An enum, since a function that makes a `dyn` value may not hand it out.
 #[derive(Drop)]
 pub enum PiledCurve {
     Bare(BlockCurve),

@@ -22,7 +22,7 @@ fn settle(rt: &HostRuntime) -> anyhow::Result<()> {
     Ok(())
 }
 
-// In each program, since a library function has a contract with its whole outcome, which printing has not.
+// Each program has its own: a library function of it would be public, and so state its whole outcome, which is what it printed.
 fn main(rt: HostRuntime) -> ExitCode {
     match settle(&rt) {
         Ok(()) => ExitCode::SUCCESS,

@@ -49,6 +49,16 @@ impl<C: OfferCurve + Drop> Adder<C> {
     }
 }
 
+// What is added to the first tenths: the number, as often as there are tenths.
+fn added_to(tenths: u64, added: i64) -> Block
+    ensures { result ≡ record { width = tenths; price = added } }
+{
+    Block {
+        width: tenths,
+        price: added,
+    }
+}
+
 impl<C: OfferCurve> OfferCurve for Adder<C> {
     ghost prices = { λ c. raised c.added (C.OfferCurve.prices c.lower) };
 
@@ -64,10 +74,7 @@ impl<C: OfferCurve> OfferCurve for Adder<C> {
 
     fn cost(&self, tenths: u64) -> Result<i64, CurveRefusal> {
         let below = self.lower.cost(tenths)?;
-        let more = cost_of_all(Block {
-            width: tenths,
-            price: self.added,
-        });
+        let more = cost_of_all(added_to(tenths, self.added));
         Ok(below + more)
     }
 

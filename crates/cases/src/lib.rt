@@ -5,6 +5,10 @@
 ghost use Rattle.std.specs.Prelude.{◌≡◌, true};
 ghost use Rattle.cases.specs.Worked.{WorkedAmounts};
 
+mod laid;
+
+pub use laid::price_laid_twice;
+
 // The rules give the worked amounts.
 fn work_out()
     ensures { WorkedAmounts }

@@ -1,5 +1,6 @@
 // Caps and adders, executed: which are made, and what piles of them answer.
 
+use super::laid::price_laid_twice;
 use super::support::*;
 use offers::{Adder, BlockCurve, Cap, price_over};
 use quotes::{Pile, PiledCurve};
@@ -186,6 +187,8 @@ fn laid_and_asked_at_once(rt: HostRuntime) -> Result<(), Fail> {
     assert_eq!(rt; capped, Ok(2_500));
     let raised = price_over::<BlockCurve, Adder<BlockCurve>>(curve_b(heap)?, 300, 101);
     assert_eq!(rt; raised, Ok(3_300));
+    let both = price_laid_twice(curve_b(heap)?, 2_500, 300, 101);
+    assert_eq!(rt; both, Ok(2_800));
     let beyond = price_over::<BlockCurve, Cap<BlockCurve>>(curve_b(heap)?, 2_500, 201);
     check_refused(&rt, beyond, 13, 201)?;
     let dear = price_over::<BlockCurve, Adder<BlockCurve>>(curve_b(heap)?, 97_001, 1);

@@ -4,9 +4,11 @@
 
 mod metered;
 mod net;
+mod told;
 
 pub use metered::{Metered, MeteredRecord};
 pub use net::net_of;
+pub use told::told_of;
 
 #[cfg(test)]
 mod curve_tests;

@@ -5,8 +5,10 @@
 ghost use Rattle.std.specs.Prelude.{◌≡◌, true};
 ghost use Rattle.cases.specs.Worked.{WorkedAmounts};
 
+mod held;
 mod laid;
 
+pub use held::{Held, count_held};
 pub use laid::price_laid_twice;
 
 // The rules give the worked amounts.

@@ -1,5 +1,6 @@
 // Caps and adders, executed: which are made, and what piles of them answer.
 
+use super::held::{Held, count_held};
 use super::laid::price_laid_twice;
 use super::support::*;
 use offers::{Adder, BlockCurve, Cap, price_over};
@@ -60,6 +61,18 @@ fn cap_at_the_ends_of_the_range(rt: HostRuntime) -> Result<(), Fail> {
     check_costs(&rt, &high, &[(200, 500_000)])?;
     check_counts(&rt, &high, &[(2_999, 100), (99_999, 200), (i64::MAX, 200)]);
     check_beyond(&rt, &high, 200)
+}
+
+// Prices 2,300 and 2,800.
+#[test]
+fn held_in_a_field(rt: HostRuntime) -> Result<(), Fail> {
+    let held = Held {
+        pile: Adder::new(Cap::new(curve_b(rt.alloc())?, 2_500)?, 300)?,
+    };
+    for (price, tenths) in [(2_299, 0), (2_300, 100), (2_799, 100), (2_800, 200)] {
+        assert_eq!(rt; count_held(&held, price), tenths);
+    }
+    Ok(())
 }
 
 // Prices 2,300 and 2,500.

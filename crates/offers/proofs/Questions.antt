@@ -1,21 +1,22 @@
 -- Questions to a changed list of prices, by the answers of the list below.
-use Rattle.std.proofs.Common.{◌≡◌, ℕ, suc, ◌-◌, ◌≤◌, min, Bool, true, false, cond, ◌&&◌, leb, List, [], ◌∷◌, map, length, get_or, take, ℤ, pos, negsuc, ◌+ℤ◌, ◌-ℤ◌, ◌*ℤ◌, ◌≤ℤ◌, Ok, Err, sym, refl, ap, ◌∙◌, subst, arith, w64, SFits, to_z, of_z, int_le}
+use Rattle.std.proofs.Common.{◌≡◌, ℕ, suc, ◌-◌, ◌<◌, ◌≤◌, min, Bool, true, false, cond, ◌&&◌, leb, List, [], ◌∷◌, map, length, get_or, take, ℤ, pos, negsuc, ◌+ℤ◌, ◌-ℤ◌, ◌*ℤ◌, ◌≤ℤ◌, Ok, Err, sym, refl, ap, ◌∙◌, subst, arith, w64, SFits, to_z, of_z}
 use lib.ListN.{length-map}
 use Rattle.std.proofs.ByRecursion.{All-take, All-get_or}
 use Rattle.std.proofs.lemmas.List.{length-take, get_or-map}
 use Rattle.std.proofs.lemmas.Int.{ints, to_z-of_z}
 use Rattle.std.proofs.lemmas.Bool.{and_parts, leb-true}
 use Rattle.std.proofs.lemmas.Bool.Decides.{nat_tests}
-use Rattle.std.specs.Int.{int_min, saturate_signed}
+use Rattle.std.specs.Int.{int_min, int_max}
+use Rattle.offers.specs.declared.refusal.CurveRefusal.{CurveRefusal}
 use Rattle.offers.specs.declared.refusal.CurveRefusal.TheVariants.{NoSuchTenth, AdderOutOfRange}
 use Rattle.std.specs.List.{AllByRecursion}
 use Rattle.offers.specs.Prices.{InRange, in_range, lowest_price, highest_price, Rising, Lawful, total, up_to, price_of, cost_of}
 use Rattle.offers.specs.Answers.{then}
 use Rattle.offers.specs.Bounds.{Amount, Difference}
-use Rattle.offers.specs.Piles.{capped, raised, all_keep, adder_asked}
+use Rattle.offers.specs.Piles.{capped, clamped, raised, all_keep, adder_asked}
 use Rattle.offers.specs.Sums.{near_fits, total-near, product-amount}
-use Rattle.offers.specs.Rising.{rises-rising}
-use Rattle.offers.specs.PilesLemmas.{shifted, total-shifted, total-capped, last_of, last-get_or, keeps-by-ends, raised-kept}
+use Rattle.offers.specs.Rising.{rises-rising, up_to-mono}
+use Rattle.offers.specs.PilesLemmas.{total-capped, total-raised, last_of, last-get_or, keeps-by-ends, raised-kept}
 
 -- the price of a tenth, after each price is changed
 price-map : (m : ℤ → ℤ) (ps : List ℤ) (t : ℕ) → then (price_of ps t) m ≡ price_of (map m ps) t
@@ -34,6 +35,9 @@ price-map m ps t = go (leb 1 t && leb t (length ps)) refl
         let same = length-map ps m in
         let test : (leb 1 t && leb t (length (map m ps))) ≡ false = rw same e in
         rw test
+
+pub price-refused : (m : ℤ → ℤ) (ps : List ℤ) (t : ℕ) (e : CurveRefusal) → Err e ≡ price_of ps t → Err e ≡ price_of (map m ps) t
+price-refused m ps t e h = ap (λ r. then r m) h ∙ price-map m ps t
 
 pub price-changed : (m : ℤ → ℤ) (ps : List ℤ) (t : ℕ) (p r : ℤ) → r ≡ m p → Ok p ≡ price_of ps t → Ok r ≡ price_of (map m ps) t
 price-changed m ps t p r is h = ap Ok is ∙ ap (λ r. then r m) h ∙ price-map m ps t
@@ -122,95 +126,155 @@ module _ (limit : ℤ) (ps : List ℤ) (q under count : ℕ) (cost r : ℤ) (ran
       let inside = cost-inside (capped limit ps) q (omega arith) in
       ap Ok (sum_back cost r cost-small high_small).1 ∙ sym (inside ∙ ap Ok (sum ∙ sym (ap (λ n. total (take n ps) +ℤ pos (q - n) *ℤ limit) under-is) ∙ sym (ap (λ z. z +ℤ pos (q - under) *ℤ limit) cost-is) ∙ sym (ap (λ z. cost +ℤ z) at-limit)))
 
--- a cost that is told is one of tenths that there are
-cost-taken : (ps : List ℤ) (q : ℕ) (z : ℤ) → Ok z ≡ cost_of ps q → q ≤ length ps
-cost-taken ps q z h = go (leb q (length ps)) refl
-  where
-    go : (b : Bool) → leb q (length ps) ≡ b → q ≤ length ps
-    go true e = leb-true q (length ps) e
-    go false e = let x : Ok z ≡ Err (NoSuchTenth q) = rw e at h in absurd (let y : ◌≡◌ {A = ℕ} 0 1 = cc in omega arith)
+pub cost-beyond : (ps : List ℤ) (q : ℕ) → length ps < q → Err (NoSuchTenth q) ≡ cost_of ps q
+cost-beyond ps q h = let t : leb q (length ps) ≡ false = grind (arith, nat_tests) in rw t
 
--- a difference that is taken to the nearest number of its type compares with prices as it did
-saturated-fits : (z : ℤ) → SFits w64 (saturate_signed w64 z)
-saturated-fits (pos k) = record { sfits = omega (arith, ints) }
-saturated-fits (negsuc k) = record { sfits = omega (arith, ints) }
+amount-back : (z : ℤ) → Amount z → to_z w64 (of_z w64 z) ≡ z
+amount-back z h = omega (arith, ints)
 
-saturated-compares : (z p : ℤ) → InRange p → int_le p z ≡ int_le p (saturate_signed w64 z)
-saturated-compares (pos k) p h = let low = h.0 in let high = h.1 in grind (arith, ints)
-saturated-compares (negsuc k) p h = let low = h.0 in let high = h.1 in grind (arith, ints)
+far-back : (r a b c d e : ℤ) → r ≡ a +ℤ (b -ℤ c) +ℤ d +ℤ e → Amount b × Amount c × Amount d × Amount a × Amount e → to_z w64 (of_z w64 r) ≡ r
+far-back r a b c d e is h =
+    let x = h.0 in
+    let y = h.1 in
+    let z = h.2 in
+    let v = h.3 in
+    let w = h.4 in
+    omega (arith, ints)
 
--- ---- the answers of an adder that keeps every sum in range, as the machine works them out
+-- the sum of a price and a number, kept in range as the machine works it out
+module _ (n p : ℤ) (h : InRange p) (d : Difference n) where
+  pub raised-fits : SFits w64 (to_z w64 (of_z w64 p) +ℤ to_z w64 (of_z w64 n))
+  raised-fits = (sum_back p n (omega (arith, ints), omega (arith, ints)) (omega (arith, ints), omega (arith, ints))).0
 
-module _ (n : ℤ) (ps : List ℤ) (l : Lawful ps) (kept : all_keep n ps ≡ true) where
-  raised-is : raised n ps ≡ shifted n ps
-  raised-is = raised-kept n ps kept
-
-  -- no more than from one end of the range to the other
-  pub kept-modest : Difference n
-  kept-modest = go ps l.some l.within kept
+  pub clamp-back : (r : ℤ) → r ≡ int_max (negsuc 99999) (int_min (to_z w64 (of_z w64 (to_z w64 (of_z w64 p) +ℤ to_z w64 (of_z w64 n)))) (pos 100000)) → to_z w64 (of_z w64 r) ≡ clamped (p +ℤ n)
+  clamp-back r e =
+      let s = (sum_back p n (omega (arith, ints), omega (arith, ints)) (omega (arith, ints), omega (arith, ints))).1 in
+      let is : r ≡ int_max (negsuc 99999) (int_min (p +ℤ n) (pos 100000)) = e ∙ ap (λ z. int_max (negsuc 99999) (int_min z (pos 100000))) s in
+      let within : InRange r = rw is (grind (arith, ints), grind (arith, ints)) in
+      range_back r within ∙ is ∙ same (p +ℤ n)
     where
-      modest : (p : ℤ) → InRange p → in_range (p +ℤ n) ≡ true → Difference n
-      modest p h k =
-          let low : lowest_price ≤ℤ (p +ℤ n) = grind (arith, ints) in
-          let high : (p +ℤ n) ≤ℤ highest_price = grind (arith, ints) in
-          let a = h.0 in
-          let b = h.1 in
-          (omega (arith, ints), omega (arith, ints))
+      same : (z : ℤ) → int_max (negsuc 99999) (int_min z (pos 100000)) ≡ clamped z
+      same z = grind (arith, ints)
 
-      go : (ps : List ℤ) → 1 ≤ length ps → AllByRecursion InRange ps → all_keep n ps ≡ true → Difference n
-      go [] h w k = absurd (omega arith)
-      go (p ∷ ps) h w k = modest p w.0 (and_parts (in_range (p +ℤ n)) (all_keep n ps) k).0
+-- the parts of such a cost, joined as the machine joins them
+module _ (kept lifted added floor roof : ℤ) (a : Amount kept × Amount lifted × Amount added × Amount floor × Amount roof) where
+  between : to_z w64 (of_z w64 (to_z w64 (of_z w64 kept) -ℤ to_z w64 (of_z w64 lifted))) ≡ kept -ℤ lifted
+  between =
+      let k = a.0 in
+      let l = a.1 in
+      omega (arith, ints)
 
-  pub price-raised : (t : ℕ) (p : ℤ) → Ok p ≡ price_of ps t → Ok (to_z w64 (of_z w64 (to_z w64 (of_z w64 p) +ℤ to_z w64 (of_z w64 n)))) ≡ price_of (raised n ps) t
-  price-raised t p h =
-      let within = price-within ps t p l h in
-      let modest = kept-modest in
-      let low = within.0 in
-      let high = within.1 in
-      let least = modest.0 in
-      let most = modest.1 in
-      let back = (sum_back p n (omega (arith, ints), omega (arith, ints)) (omega (arith, ints), omega (arith, ints))).1 in
-      ap Ok back ∙ price-changed (λ p. p +ℤ n) ps t p (p +ℤ n) refl h ∙ ap (λ xs. price_of xs t) (sym raised-is)
+  lower : to_z w64 (of_z w64 (to_z w64 (of_z w64 floor) +ℤ to_z w64 (of_z w64 (to_z w64 (of_z w64 kept) -ℤ to_z w64 (of_z w64 lifted))))) ≡ floor +ℤ (kept -ℤ lifted)
+  lower =
+      let k = a.0 in
+      let l = a.1 in
+      let f = a.3 in
+      let b = between in
+      rw b (omega (arith, ints))
 
-  module _ (q : ℕ) (cost more : ℤ) (below : Ok cost ≡ cost_of ps q) (at : more ≡ pos q *ℤ to_z w64 (of_z w64 n)) where
-    taken : q ≤ length ps
-    taken = cost-taken ps q cost below
+  upper : to_z w64 (of_z w64 (to_z w64 (of_z w64 added) +ℤ to_z w64 (of_z w64 roof))) ≡ added +ℤ roof
+  upper = (sum_back added roof a.2 a.4).1
 
-    same-added : to_z w64 (of_z w64 n) ≡ n
-    same-added = let modest = kept-modest in let least = modest.0 in let most = modest.1 in omega (arith, ints)
+  pub parts-fit : SFits w64 (to_z w64 (of_z w64 (to_z w64 (of_z w64 floor) +ℤ to_z w64 (of_z w64 (to_z w64 (of_z w64 kept) -ℤ to_z w64 (of_z w64 lifted))))) +ℤ to_z w64 (of_z w64 (to_z w64 (of_z w64 added) +ℤ to_z w64 (of_z w64 roof))))
+  parts-fit =
+      let k = a.0 in
+      let l = a.1 in
+      let d = a.2 in
+      let f = a.3 in
+      let r = a.4 in
+      rw (lower, upper) (near_fits 10000000000 (floor +ℤ (kept -ℤ lifted) +ℤ (added +ℤ roof)) (omega arith) (omega (arith, ints), omega (arith, ints)))
 
-    below-small : Amount cost
-    below-small = rw (cost-value ps q cost taken below) (cost-amount ps q l)
+  pub parts-sum : to_z w64 (of_z w64 (to_z w64 (of_z w64 (to_z w64 (of_z w64 floor) +ℤ to_z w64 (of_z w64 (to_z w64 (of_z w64 kept) -ℤ to_z w64 (of_z w64 lifted))))) +ℤ to_z w64 (of_z w64 (to_z w64 (of_z w64 added) +ℤ to_z w64 (of_z w64 roof))))) ≡ floor +ℤ (kept -ℤ lifted) +ℤ added +ℤ roof
+  parts-sum =
+      let k = a.0 in
+      let l = a.1 in
+      let d = a.2 in
+      let f = a.3 in
+      let r = a.4 in
+      rw (lower, upper) (omega (arith, ints))
 
-    more-small : Amount more
-    more-small = rw (at, same-added) (product-amount q n (let few = l.few in let t = taken in omega arith) kept-modest)
+-- the cost under an adder, from the counts and the costs below, as the machine works it out
+module _ (n : ℤ) (ps : List ℤ) (q lifted kept low_count high-count : ℕ) (d : Difference n) (l : Lawful ps) (h : q ≤ length ps) (low-counted : low_count ≡ up_to (to_z w64 (of_z w64 (negsuc 99999 -ℤ to_z w64 (of_z w64 n)))) ps) (high-counted : high-count ≡ up_to (to_z w64 (of_z w64 (pos 100000 -ℤ to_z w64 (of_z w64 n)))) ps) (lifted-least : lifted ≡ min low_count q) (kept-least : kept ≡ min high-count q) where
+  lifted-is : lifted ≡ min (up_to (lowest_price -ℤ n) ps) q
+  lifted-is = lifted-least ∙ ap (λ k. min k q) (low-counted ∙ ap (λ z. up_to z ps) (omega (arith, ints)))
 
-    pub cost-fits : SFits w64 (to_z w64 (of_z w64 cost) +ℤ to_z w64 (of_z w64 more))
-    cost-fits = (sum_back cost more below-small more-small).0
+  kept-is : kept ≡ min (up_to (highest_price -ℤ n) ps) q
+  kept-is = kept-least ∙ ap (λ k. min k q) (high-counted ∙ ap (λ z. up_to z ps) (omega (arith, ints)))
 
-    pub cost-raised : Ok (to_z w64 (of_z w64 (to_z w64 (of_z w64 cost) +ℤ to_z w64 (of_z w64 more)))) ≡ cost_of (raised n ps) q
-    cost-raised =
-        let lengths = length-map ps (λ p. p +ℤ n) in
-        let few = taken in
-        let sum : total (take q (shifted n ps)) ≡ cost +ℤ more = total-shifted n ps q taken ∙ rw (cost-value ps q cost taken below, at, same-added) refl in
-        ap Ok ((sum_back cost more below-small more-small).1 ∙ sym sum) ∙ sym (cost-inside (shifted n ps) q (omega arith)) ∙ ap (λ xs. cost_of xs q) (sym raised-is)
+  pub kept-within : kept ≤ q
+  kept-within = omega arith
 
-  pub count-raised : (q : ℤ) → SFits w64 q → up_to (to_z w64 (of_z w64 (saturate_signed w64 (to_z w64 (of_z w64 q) -ℤ to_z w64 (of_z w64 n))))) ps ≡ up_to q (raised n ps)
-  count-raised q f =
-      let modest = kept-modest in
-      let least = modest.0 in
-      let most = modest.1 in
-      let back-n : to_z w64 (of_z w64 n) ≡ n = omega (arith, ints) in
-      rw (to_z-of_z w64 q f, back-n, to_z-of_z w64 _ (saturated-fits (q -ℤ n)), raised-is) (sym (alike ps l.within))
-    where
-      compares : (p : ℤ) → InRange p → int_le (p +ℤ n) q ≡ int_le p (saturate_signed w64 (q -ℤ n))
-      compares p h = let e : int_le (p +ℤ n) q ≡ int_le p (q -ℤ n) = grind (arith, ints) in e ∙ saturated-compares (q -ℤ n) p h
+  pub lifted-kept : lifted ≤ kept
+  lifted-kept =
+      let a = lifted-is in
+      let b = kept-is in
+      let c = up_to-mono (lowest_price -ℤ n) (highest_price -ℤ n) ps (omega (arith, ints)) in
+      omega arith
 
-      alike : (ps : List ℤ) → AllByRecursion InRange ps → up_to q (map (λ p. p +ℤ n) ps) ≡ up_to (saturate_signed w64 (q -ℤ n)) ps
-      alike [] h = refl
-      alike (p ∷ ps) h = let e = alike ps h.1 in simp (compares p h.0) (omega arith)
+  module _ (above under added floor roof : ℤ) (is-above : Ok above ≡ cost_of ps kept) (is-under : Ok under ≡ cost_of ps lifted) (is-added : added ≡ pos (kept - lifted) *ℤ to_z w64 (of_z w64 n)) (is-floor : floor ≡ pos lifted *ℤ lowest_price) (is-roof : roof ≡ pos (q - kept) *ℤ highest_price) where
+    above-total : above ≡ total (take kept ps)
+    above-total = let k = kept-within in cost-value ps kept above (omega arith) is-above
+
+    under-total : under ≡ total (take lifted ps)
+    under-total = let k = kept-within in let m = lifted-kept in cost-value ps lifted under (omega arith) is-under
+
+    added-times : added ≡ pos (kept - lifted) *ℤ n
+    added-times = let back : to_z w64 (of_z w64 n) ≡ n = omega (arith, ints) in is-added ∙ ap (λ k. pos (kept - lifted) *ℤ k) back
+
+    amounts : Amount above × Amount under × Amount added × Amount floor × Amount roof
+    amounts =
+        let top = l.few in
+        let k = kept-within in
+        let m = lifted-kept in (
+          subst Amount (sym above-total) (cost-amount ps kept l),
+          subst Amount (sym under-total) (cost-amount ps lifted l),
+          subst Amount (sym added-times) (product-amount (kept - lifted) n (omega arith) d),
+          subst Amount (sym is-floor) (product-amount lifted lowest_price (omega arith) (omega (arith, ints), omega (arith, ints))),
+          subst Amount (sym is-roof) (product-amount (q - kept) highest_price (omega arith) (omega (arith, ints), omega (arith, ints))),
+        )
+
+    pub raised-amounts : Amount (to_z w64 (of_z w64 above)) × Amount (to_z w64 (of_z w64 under)) × Amount (to_z w64 (of_z w64 added)) × Amount (to_z w64 (of_z w64 floor)) × Amount (to_z w64 (of_z w64 roof))
+    raised-amounts =
+        let a = amounts in (
+          subst Amount (sym (amount-back above a.0)) a.0,
+          subst Amount (sym (amount-back under a.1)) a.1,
+          subst Amount (sym (amount-back added a.2)) a.2,
+          subst Amount (sym (amount-back floor a.3)) a.3,
+          subst Amount (sym (amount-back roof a.4)) a.4,
+        )
+
+    pub cost-raised : (r : ℤ) → r ≡ to_z w64 (of_z w64 floor) +ℤ (to_z w64 (of_z w64 above) -ℤ to_z w64 (of_z w64 under)) +ℤ to_z w64 (of_z w64 added) +ℤ to_z w64 (of_z w64 roof) → Ok (to_z w64 (of_z w64 r)) ≡ cost_of (raised n ps) q
+    cost-raised r is =
+        let a = amounts in
+        let b0 = amount-back above a.0 in
+        let b1 = amount-back under a.1 in
+        let b2 = amount-back added a.2 in
+        let b3 = amount-back floor a.3 in
+        let b4 = amount-back roof a.4 in
+        let sum : r ≡ floor +ℤ (above -ℤ under) +ℤ added +ℤ roof = is ∙ rw (b0, b1, b2, b3, b4) in
+        let raw = total-raised n lowest_price ps q lifted kept (rises-rising ps l.within l.rising) h lifted-is kept-is in
+        let all : r ≡ total (take q (raised n ps)) = sum ∙ rw (is-floor, above-total, under-total, added-times, is-roof) (sym raw) in
+        let same = length-map ps (λ p. clamped (p +ℤ n)) in
+        let back : to_z w64 (of_z w64 r) ≡ r = far-back r floor above under added roof sum a in
+        ap Ok (back ∙ all) ∙ sym (cost-inside (raised n ps) q (omega arith))
 
 -- ---- which adders are made
+
+-- a number that keeps every sum in range is no more than from one end of the range to the other
+kept-modest : (n : ℤ) (ps : List ℤ) → Lawful ps → all_keep n ps ≡ true → Difference n
+kept-modest n ps l kept = go ps l.some l.within kept
+  where
+    modest : (p : ℤ) → InRange p → in_range (p +ℤ n) ≡ true → Difference n
+    modest p h k =
+        let low : lowest_price ≤ℤ (p +ℤ n) = grind (arith, ints) in
+        let high : (p +ℤ n) ≤ℤ highest_price = grind (arith, ints) in
+        let a = h.0 in
+        let b = h.1 in
+        (omega (arith, ints), omega (arith, ints))
+
+    go : (ps : List ℤ) → 1 ≤ length ps → AllByRecursion InRange ps → all_keep n ps ≡ true → Difference n
+    go [] h w k = absurd (omega arith)
+    go (p ∷ ps) h w k = modest p w.0 (and_parts (in_range (p +ℤ n)) (all_keep n ps) k).0
 
 module _ (n : ℤ) (ps : List ℤ) (top : ℕ) (first last : ℤ) (f : SFits w64 n) (l : Lawful ps) (tops : top ≡ length ps) (at_first : Ok first ≡ price_of ps 1) (at_last : Ok last ≡ price_of ps top) where
   by-ends : all_keep n ps ≡ all_keep n (first ∷ last ∷ [])
@@ -241,5 +305,5 @@ module _ (n : ℤ) (ps : List ℤ) (top : ℕ) (first last : ℤ) (f : SFits w64
         let e : all_keep n ps ≡ true = sym tested ∙ holds in
         rw (to_z-of_z w64 n f, e, raised-kept n ps e)
 
-    pub adder-kept : t ≡ true → all_keep (to_z w64 (of_z w64 n)) ps ≡ true
-    adder-kept holds = rw (to_z-of_z w64 n f) (sym tested ∙ holds)
+    pub adder-modest : t ≡ true → Difference (to_z w64 (of_z w64 n))
+    adder-modest holds = rw (to_z-of_z w64 n f) (kept-modest n ps l (sym tested ∙ holds))

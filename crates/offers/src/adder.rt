@@ -1,22 +1,26 @@
 // An adder over a lower curve.
 
-ghost use Rattle.std.specs.Prelude.{◌≡◌, ◌+ℤ◌, true};
-ghost use Rattle.offers.specs.Prices.{in_range};
+ghost use Rattle.std.specs.Prelude.{◌≡◌, ◌-◌, ◌≤◌, ◌+ℤ◌, ◌-ℤ◌};
+ghost use Rattle.offers.specs.Prices.{lowest_price, highest_price, in_range, cost_of};
 ghost use Rattle.offers.specs.Answers.{then};
+ghost use Rattle.offers.specs.Bounds.{Amount, Difference};
 ghost use Rattle.offers.specs.Piles.{raised, adder_asked, all_keep};
 ghost use Rattle.offers.specs.PilesLemmas.{lawful-raised};
 
 use super::block::{Block, cost_of_all};
-use super::curve::{OfferCurve, in_range};
+use super::curve::{HIGHEST_PRICE, LOWEST_PRICE, OfferCurve, in_range};
 use super::over::Over;
 use super::refusal::CurveRefusal;
 
-// A curve with a number added to every price. It keeps them all in range.
+// A curve with a number added to every price; a sum out of range stands at the nearer limit. That none is made which has such
+// a sum is said of `new`: as a ghost field over the prices below it would bind the type, and a struct that holds an adder over
+// a curve of its own parameter would have to repeat the bound.
 #[derive(Drop)]
-pub struct Adder<C: OfferCurve> {
+pub struct Adder<C> {
     lower: C,
     added: i64,
-    ghost kept: { all_keep added (C.OfferCurve.prices lower) ≡ true },
+    // Any other number takes every price out of range.
+    ghost modest: { Difference added },
 }
 
 // Whether a price stays in range when a number is added to it.
@@ -49,14 +53,64 @@ impl<C: OfferCurve + Drop> Adder<C> {
     }
 }
 
-// What is added to the first tenths: the number, as often as there are tenths.
-fn added_to(tenths: u64, added: i64) -> Block
-    ensures { result ≡ record { width = tenths; price = added } }
+// The first tenths under an adder, by where their sums stand: at the lowest price, in range, at the highest price.
+#[derive(Clone, Copy)]
+struct Split {
+    lifted: Block,
+    raised: Block,
+    cut: Block,
+}
+
+fn split_of(tenths: u64, lifted: u64, kept: u64, added: i64) -> Split
+    requires ordered { lifted ≤ kept }
+    requires within { kept ≤ tenths }
+    ensures { result ≡ record { lifted = record { width = lifted; price = lowest_price }; raised = record { width = kept - lifted; price = added }; cut = record { width = tenths - kept; price = highest_price } } }
 {
-    Block {
-        width: tenths,
-        price: added,
+    Split {
+        lifted: Block {
+            width: lifted,
+            price: LOWEST_PRICE,
+        },
+        raised: Block {
+            width: kept - lifted,
+            price: added,
+        },
+        cut: Block {
+            width: tenths - kept,
+            price: HIGHEST_PRICE,
+        },
     }
+}
+
+// A cost under an adder by its parts, in ticks: the tenths up to the last in range at the lower curve's prices, of these
+// the tenths before the first in range, what is added to the tenths in range, and the tenths at either limit.
+#[derive(Clone, Copy)]
+struct CostParts {
+    kept: i64,
+    lifted: i64,
+    added: i64,
+    floor: i64,
+    roof: i64,
+}
+
+fn sum_of(parts: CostParts) -> i64
+    requires { Amount parts.kept × Amount parts.lifted × Amount parts.added × Amount parts.floor × Amount parts.roof }
+    ensures { result ≡ parts.floor +ℤ (parts.kept -ℤ parts.lifted) +ℤ parts.added +ℤ parts.roof }
+{
+    let between = parts.kept - parts.lifted;
+    let lower = parts.floor + between;
+    let upper = parts.added + parts.roof;
+    lower + upper
+}
+
+// The cost of the first tenths, of which most often there are none.
+fn cost_if_any<C: OfferCurve>(curve: &C, tenths: u64) -> Result<i64, CurveRefusal>
+    ensures { result ≡ cost_of (C.prices curve.now) tenths }
+{
+    if tenths == 0 {
+        return Ok(0);
+    }
+    curve.cost(tenths)
 }
 
 impl<C: OfferCurve> OfferCurve for Adder<C> {
@@ -69,18 +123,34 @@ impl<C: OfferCurve> OfferCurve for Adder<C> {
     }
 
     fn price(&self, tenth: u64) -> Result<i64, CurveRefusal> {
-        Ok(self.lower.price(tenth)? + self.added)
+        let price = self.lower.price(tenth)?;
+        Ok((price + self.added).clamp(LOWEST_PRICE, HIGHEST_PRICE))
     }
 
     fn cost(&self, tenths: u64) -> Result<i64, CurveRefusal> {
-        let below = self.lower.cost(tenths)?;
-        let more = cost_of_all(added_to(tenths, self.added));
-        Ok(below + more)
+        if tenths > self.lower.top() {
+            return Err(CurveRefusal::NoSuchTenth(tenths));
+        }
+        let lifted = self.lower.count(LOWEST_PRICE - self.added).min(tenths);
+        let kept = self.lower.count(HIGHEST_PRICE - self.added).min(tenths);
+        let parts = split_of(tenths, lifted, kept, self.added);
+        Ok(sum_of(CostParts {
+            kept: self.lower.cost(kept)?,
+            lifted: cost_if_any(&self.lower, lifted)?,
+            added: cost_of_all(parts.raised),
+            floor: cost_of_all(parts.lifted),
+            roof: cost_of_all(parts.cut),
+        }))
     }
 
-    // A price so far out that the difference passes its type is beyond every price below.
     fn count(&self, price: i64) -> u64 {
-        self.lower.count(price.saturating_sub(self.added))
+        if price < LOWEST_PRICE {
+            0
+        } else if price < HIGHEST_PRICE {
+            self.lower.count(price - self.added)
+        } else {
+            self.lower.top()
+        }
     }
 }
 

@@ -8,8 +8,8 @@ use Rattle.offers.specs.Prices.{Lawful}
 use Rattle.market.specs.declared.refusal.ProcessRefusal.{ProcessRefusal}
 use Rattle.market.specs.declared.ruc_record.RucRecord.{RucRecord}
 use Rattle.market.specs.Curves.{cost_up_to, tenth_refusal}
-use Rattle.market.specs.Laws.{Bounded, LawfulRefusal, LawfulMeaning}
-use Rattle.market.specs.Reliability.{ruc_figures, ruc_fields, ruc_limits, ruc_field_refusal, ruc_refusal, ruc_amounts, ruc_meaning, RucTaken, held_output, economic_point, excess_cost, off_setpoint, non_dispatchable}
+use Rattle.market.specs.Laws.{Within, Bounded, LawfulRefusal, LawfulMeaning}
+use Rattle.market.specs.Reliability.{ruc_figures, ruc_fields, ruc_limits, ruc_field_refusal, ruc_refusal, ruc_amounts, ruc_meaning, RucTaken, held_output, energy_cost, economic_point, excess_cost, off_setpoint, non_dispatchable}
 use Rattle.market.specs.Costs.{cost-by-two, cost-apart}
 use Rattle.market.specs.Fields.{none-refused, all-taken, field-named}
 use Rattle.market.specs.Products.{sold_within}
@@ -77,19 +77,27 @@ module _ (committed current : List ℤ) (x : RucRecord) where
     point-few : economic_point current x ≤ 10000
     point-few = let most = t.most in let few = k.few in omega arith
 
+    -- priced by two curves, the energy of a record lies within the bounds of one
+    pub energy-within : Within 1000000000 (energy_cost committed current x)
+    energy-within = cost-by-two committed current (held_output x) (unsigned_abs x.actual) l k (omega arith) output-few
+
+    -- and so does its excess
+    pub excess-within : Within 1000000000 (excess_cost current x)
+    excess-within =
+        let apart = cost-apart current (unsigned_abs x.actual) (economic_point current x) k output-few point-few in
+        (grind (arith, ints), grind (arith, ints))
+
     interval-bounded : Bounded ruc_figures (ruc_amounts committed current x)
     interval-bounded =
-        let energy = cost-by-two committed current (held_output x) (unsigned_abs x.actual) l k (omega arith) output-few in
+        let energy = energy-within in
         let no_load = t.fields.1.1.1.1.1.1.1.0 in
         let reserve_cost = t.fields.1.1.1.1.1.1.1.1.1.1.0 in
         let sold = sold_within x.actual x.price t.fields.1.1.1.1.0 t.fields.1.1.1.1.1.1.0 in
         let other = t.fields.1.1.1.1.1.1.1.1.1.0 in
-        let apart = cost-apart current (unsigned_abs x.actual) (economic_point current x) k output-few point-few in
-        let most : excess_cost current x ≤ℤ pos 1000000000 = grind (arith, ints) in
         record {
           cost = (omega (arith, ints), omega (arith, ints));
           revenue = (omega (arith, ints), omega (arith, ints));
-          disallowed = grounds-bounded (off_setpoint x) (non_dispatchable x) _ (excess_cost current x) (max-low (cost_up_to current (unsigned_abs x.actual) -ℤ cost_up_to current (economic_point current x))) most;
+          disallowed = grounds-bounded (off_setpoint x) (non_dispatchable x) _ (excess_cost current x) (max-low (cost_up_to current (unsigned_abs x.actual) -ℤ cost_up_to current (economic_point current x))) excess-within.1;
         }
 
   interval-named : (e : ProcessRefusal) → ruc_refusal committed current x ≡ Some e → LawfulRefusal e

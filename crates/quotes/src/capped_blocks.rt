@@ -9,8 +9,7 @@ ghost use Rattle.offers.specs.Spreads.{lawful-spread};
 
 use offers::{BlockCurve, Cap, CurveRefusal, OfferCurve};
 
-// A type of its own, since a variant cannot hold an adder over `Cap<BlockCurve>`: the ghost field of the adder asks for an
-// `impl` of the curve below that is not generic.
+// A curve of blocks that is capped, as one type with one `impl`: what an adder lies on where a cap is under it.
 #[derive(Drop)]
 pub struct CappedBlocks(Cap<BlockCurve>);
 

@@ -9,7 +9,10 @@ use std::process::ExitCode;
 // Nothing is printed until the whole offer is priced.
 fn settle(rt: &HostRuntime) -> anyhow::Result<()> {
     let heap = rt.alloc();
-    let lines: Vec<String> = rt.lines(heap).try_collect(heap)?;
+    let mut lines = Vec::new(heap);
+    for line in rt.lines(heap) {
+        lines.push(line?)?;
+    }
     let offer = read_offer(heap, lines.as_slice())?;
     let quote = price_offer(heap, &offer)?;
     let offered = OfferLines {

@@ -12,7 +12,10 @@ use std::process::ExitCode;
 // Nothing is printed until all of it is worked out.
 fn settle(rt: &HostRuntime) -> anyhow::Result<()> {
     let heap = rt.alloc();
-    let lines: Vec<String> = rt.lines(heap).try_collect(heap)?;
+    let mut lines = Vec::new(heap);
+    for line in rt.lines(heap) {
+        lines.push(line?)?;
+    }
     let unit = read_unit(heap, lines.as_slice())?;
     let committed = price_offer(heap, &unit.committed)?;
     let current = price_offer(heap, unit.current_offer())?;

@@ -13,8 +13,8 @@ use super::over::Over;
 use super::refusal::CurveRefusal;
 
 // A curve with a number added to every price; a sum out of range stands at the nearer limit. That none is made which has such
-// a sum is said of `new`: as a ghost field over the prices below it would bind the type, and a struct that holds an adder over
-// a curve of its own parameter would have to repeat the bound.
+// a sum is said of `new`: a ghost field over the prices below would put a bound on the type, which a struct with a field
+// `Adder<Cap<C>>` would have to repeat.
 #[derive(Drop)]
 pub struct Adder<C> {
     lower: C,
